@@ -1,0 +1,85 @@
+-- Laws of the ring, for any P; the ring agrees with the line wherever the true difference is below P.
+-- Assumes nothing.
+use mathlib.Core.Path.{_≡_, refl, ap, sym, _∙_}
+use mathlib.Core.Bool.{Bool, true, false, _&&_}
+use mathlib.Core.Logic.{_⊎_, inl, inr}
+use Prim.Native.Nat.{ℕ, _+_, _-_, _%_, _≤_, _<_}
+use native.Mathlib.Omega.{arith}
+use native.Mathlib.Nat.{mod-lt, mod-eq-of-lt, mod-add-mod, add-mod-right, mod-eq-sub-mod, mod-self}
+use native.Mathlib.Decide.{decLt}
+use lib.Dec.{ltb, eqb}
+use borrow.Author.Tests.{eqb-true, ltb-true}
+use Rattle.tools.proofs.Tests.{and-true-l}
+use Rattle.ring.specs.Phases.{Pair, Phases, lagOf, nextOf, laterBy, isLater}
+
+pub lag-below : (P own v : ℕ) → 0 < P → lagOf P own v < P
+lag-below P own v h = mod-lt (own + P - v) h
+
+pub next-below : (P v : ℕ) → 0 < P → nextOf P v < P
+next-below P v h = mod-lt (v + 1) h
+
+-- a phase does not lag behind itself
+pub lag-self : (P v : ℕ) → lagOf P v v ≡ 0
+lag-self P v =
+    let e : v + P - v ≡ P = omega arith in
+    ap (λ n. n % P) e ∙ mod-self P
+
+-- a reset makes every lag grow by one
+pub lag-next : (P own v : ℕ) → v < P → lagOf P own v + 1 < P → lagOf P (nextOf P own) v ≡ lagOf P own v + 1
+lag-next P own v l h =
+    let e : nextOf P own + P - v ≡ nextOf P own + (P - v) = omega arith in
+    let f : own + 1 + (P - v) ≡ own + P - v + 1 = omega arith in
+    ap (λ n. n % P) e ∙ mod-add-mod (own + 1) P (P - v) ∙ ap (λ n. n % P) f ∙ sym (mod-add-mod (own + P - v) P 1)
+    ∙ mod-eq-of-lt h
+
+-- (x + d) mod P for a remainder x and a d below P
+split : (P x d : ℕ) → x < P → d < P → ((x + d < P) × ((x + d) % P ≡ x + d)) ⊎ ((P ≤ x + d) × ((x + d) % P ≡ x + d - P))
+split P x d hx hd = go (decLt (x + d) P)
+  where
+    go : Dec (x + d < P) → ((x + d < P) × ((x + d) % P ≡ x + d)) ⊎ ((P ≤ x + d) × ((x + d) % P ≡ x + d - P))
+    go (yes l) = inl (l, mod-eq-of-lt l)
+    go (no l) =
+        let l′ : P ≤ x + d = omega arith in
+        inr (l′, mod-eq-sub-mod l′ ∙ mod-eq-of-lt (omega arith))
+
+ahead-at : (P x d o : ℕ) → x < P → d < P → o ≡ (x + d) % P → (o + P - x) % P ≡ d
+ahead-at P x d o hx hd e = go (split P x d hx hd)
+  where
+    go : ((x + d < P) × ((x + d) % P ≡ x + d)) ⊎ ((P ≤ x + d) × ((x + d) % P ≡ x + d - P)) → (o + P - x) % P ≡ d
+    go (inl (l, q)) =
+        let s : o + P - x ≡ d + P = omega arith in
+        rw s (add-mod-right d P ∙ mod-eq-of-lt hd)
+    go (inr (l, q)) =
+        let s : o + P - x ≡ d = omega arith in
+        rw s (mod-eq-of-lt hd)
+
+pub ring-lag : (P o v : ℕ) → v ≤ o → o - v < P → lagOf P (o % P) (v % P) ≡ o - v
+ring-lag P o v h l =
+    ahead-at P (v % P) (o - v) (o % P) (mod-lt v (omega arith)) l
+    (ap (λ n. n % P) e ∙ sym (mod-add-mod v P (o - v)))
+  where
+    e : o ≡ v + (o - v)
+    e = omega arith
+
+pub ring-next : (P v : ℕ) → nextOf P (v % P) ≡ (v + 1) % P
+ring-next P v = mod-add-mod v P 1
+
+-- the same difference taken the other way
+pub ring-back : (P o v : ℕ) → v < o → o - v < P → lagOf P (v % P) (o % P) ≡ P - (o - v)
+ring-back P o v h l =
+    ahead-at P (o % P) (P - (o - v)) (v % P) (mod-lt o (omega arith)) (omega arith)
+    (sym (mod-add-mod o P (P - (o - v)) ∙ ap (λ n. n % P) e ∙ add-mod-right v P))
+  where
+    e : o + (P - (o - v)) ≡ v + P
+    e = omega arith
+
+-- the later of two pairs lags no more, in any arithmetic
+pub later-lag : (Z : Phases) (o : ℕ) (e f : Pair) → isLater Z o f e ≡ true → Z .lag o (f .phase) ≤ Z .lag o (e .phase)
+unfolding laterBy
+later-lag Z o e f t = go (ltb (Z .lag o (f .phase)) (Z .lag o (e .phase))) refl t
+  where
+    go : (u : Bool) → ltb (Z .lag o (f .phase)) (Z .lag o (e .phase)) ≡ u
+        → mathlib.Core.Bool._||_ u (eqb (Z .lag o (f .phase)) (Z .lag o (e .phase)) && ltb (e .clock) (f .clock)) ≡ true
+        → Z .lag o (f .phase) ≤ Z .lag o (e .phase)
+    go true q w = let l : Z .lag o (f .phase) < Z .lag o (e .phase) = ltb-true _ _ q in omega arith
+    go false q w = let l : Z .lag o (f .phase) ≡ Z .lag o (e .phase) = eqb-true _ _ (and-true-l _ _ w) in omega arith

@@ -1,0 +1,38 @@
+-- The number of a step is that of its refusal, and a refused step changes nothing.
+-- Assumes nothing.
+use mathlib.Core.Path.{_≡_, refl, _∙_}
+use Prim.Native.Nat.{ℕ, zero, suc}
+use Rattle.ring.specs.Phases.{Phases}
+use Rattle.rules.specs.declared.Setup.{Setup}
+use Rattle.rules.specs.Model.{Tables, Act, local, reset, keep, drop, discard, show, send, receive, before, compare, write, step, done, why, settle}
+
+module _ (Z : Phases) (X : Setup) (b : Tables) (c : Act) where
+  done-zero : (c : Act) → done Z X b c .answer .number ≡ 0
+  unfolding done
+  done-zero (local j) = refl
+  done-zero (send j k) = refl
+  done-zero (receive j p) = refl
+  done-zero (reset j) = refl
+  done-zero (keep j) = refl
+  done-zero (drop s) = refl
+  done-zero (discard p) = refl
+  done-zero (before s t) = refl
+  done-zero (compare s t) = refl
+  done-zero (show s) = refl
+  done-zero (write s room) = refl
+
+  pub step-number : step Z X b c .answer .number ≡ why Z X b c
+  unfolding step
+  step-number = go (why Z X b c)
+    where
+      go : (n : ℕ) → settle n b (done Z X b c) .answer .number ≡ n
+      go zero = done-zero c
+      go (suc n) = refl
+
+  pub step-refused : (step Z X b c .answer .number ≡ 0 → ⊥) → step Z X b c .tables ≡ b
+  unfolding step
+  step-refused ne = go (why Z X b c) refl
+    where
+      go : (n : ℕ) → why Z X b c ≡ n → settle n b (done Z X b c) .tables ≡ b
+      go zero e = absurd (ne (step-number ∙ e))
+      go (suc n) e = refl

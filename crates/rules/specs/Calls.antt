@@ -1,0 +1,50 @@
+-- Books with their setup, and every call on them, in any arithmetic of phases.
+-- Assumes nothing.
+--   ringOf X     the ring of a setup; lineOf X, the line
+--   Book         a setup and its tables
+--   Call         start, or an act on the book that is there
+--   Turn         what a call answers, and the book that it leaves
+--   call Z b c   the turn of the call c on the book b
+use mathlib.Core.Bool.{not}
+use mathlib.Core.List.{[], _∷_}
+use Prim.Native.Nat.{ℕ, zero, suc}
+use Rattle.tools.specs.Reasons.{Reason, first}
+use Rattle.ring.specs.Phases.{Phases, ring, line}
+use Rattle.rules.specs.declared.Setup.{Setup}
+use Rattle.rules.specs.Setups.{permits}
+use Rattle.rules.specs.Numbers.{BadSetup, given}
+use Rattle.rules.specs.Model.{Tables, Act, nothing, Answer, refusal, accepted, Result, fresh, step}
+
+abbrev pub ringOf : Setup → Phases
+ringOf X = ring (X .phases)
+
+abbrev pub lineOf : Setup → Phases
+lineOf X = line
+
+pub record Book : Type 0 where
+  pub setup : Setup
+  pub tables : Tables
+
+pub data Call : Type 0 where
+  start : Setup → Call
+  on : Act → Call
+
+pub record Turn : Type 0 where
+  pub answer : Answer
+  pub book : Book
+
+abbrev pub freshBook : Setup → Book
+freshBook X = record { setup = X; tables = fresh }
+
+abbrev pub settled : ℕ → Book → Turn → Turn
+settled zero b t = t
+settled (suc n) b t = record { answer = refusal (suc n); book = b }
+
+abbrev pub turnOf : Setup → Result → Turn
+turnOf X r = record { answer = r .answer; book = record { setup = X; tables = r .tables } }
+
+unfoldable pub call : (Setup → Phases) → Book → Call → Turn
+call Z b (start X) =
+    settled (first (given BadSetup (not (permits X)) ∷ [])) b
+    (record { answer = accepted nothing; book = freshBook X })
+call Z b (on c) = turnOf (b .setup) (step (Z (b .setup)) (b .setup) (b .tables) c)

@@ -1,0 +1,113 @@
+-- Before, compare and newest off the book: given a setup and two stamp records.
+-- Assumes nothing.
+--   Label               a stamp: its owner and its row
+--   gapOff X j e f      the difference from e to f at desk j that two phases of a ring show, none where it is out of reach
+--   gapRead X e f       the same of two records; none where one does not read
+--   whyOff X e f out    the smallest number that is due; out: the question is out of reach
+--   beforeOff X e f     the answer to before, of two records as they read
+--   compareOff X e f    the answer to compare
+--   Which               one of two lent records, or neither
+--   newestOff X e f     the record that is after the other; the first if they are the same
+use mathlib.Core.Bool.{Bool, true, false, not, _||_}
+use mathlib.Core.Option.{Option, none, some}
+use mathlib.Core.List.{[], _∷_}
+use Prim.Native.Nat.{ℕ, zero, suc, _-_}
+use lib.Dec.{ltb}
+use Rattle.tools.specs.Tests.{pick}
+use Rattle.tools.specs.Reasons.{Reason, first}
+use Rattle.ring.specs.Phases.{Gap, lagOf}
+use Rattle.rules.specs.declared.Setup.{Setup}
+use Rattle.rules.specs.declared.Relation.{Relation}
+use Rattle.rules.specs.declared.Relation.the-variants.{Before, After, Same, Concurrent, Crossed}
+use Rattle.rules.specs.Setups.{permits}
+use Rattle.rules.specs.Numbers.{BadSetup, BadStamp, OutOfReach, given}
+use Rattle.rules.specs.Model.{
+  Row,
+  Value,
+  nothing,
+  stamp,
+  sent,
+  slot,
+  says,
+  relates,
+  shows,
+  Answer,
+  refusal,
+  accepted,
+  zeros,
+  isOut,
+  gapIn,
+  isBefore,
+  relation,
+}
+
+pub record Label : Type 0 where
+  pub owner : ℕ
+  pub row : Row
+
+-- r is (phase in f minus phase in e) modulo P: d is r if r <= n-1, else r-P if P-r <= m-1
+abbrev pub gapOff : Setup → ℕ → Row → Row → Option Gap
+gapOff X j e f =
+    let r = lagOf (X .phases) (f j .phase) (e j .phase) in
+    pick (ltb r (X .ahead)) (some record { up = r; down = 0 })
+    (pick (ltb (X .phases - r) (X .back)) (some record { up = 0; down = X .phases - r }) none)
+
+abbrev pub reads : Option Label → Bool
+reads none = false
+reads (some e) = true
+
+abbrev pub ownerIn : Option Label → ℕ
+ownerIn none = 0
+ownerIn (some e) = e .owner
+
+abbrev pub rowRead : Option Label → Row
+rowRead none = zeros
+rowRead (some e) = e .row
+
+abbrev pub gapRead : Setup → Option Label → Option Label → Option Gap
+gapRead X e f = gapOff X (ownerIn e) (rowRead e) (rowRead f)
+
+abbrev pub whyOff : Setup → Option Label → Option Label → Bool → ℕ
+whyOff X e f out =
+    first
+    (given BadSetup (not (permits X))
+    ∷ given BadStamp (not (reads e) || not (reads f))
+    ∷ given OutOfReach out
+    ∷ [])
+
+abbrev pub settleOff : ℕ → Value → Answer
+settleOff zero v = accepted v
+settleOff (suc n) v = refusal (suc n)
+
+unfoldable pub beforeOff : Setup → Option Label → Option Label → Answer
+beforeOff X e f =
+    settleOff (whyOff X e f (isOut (gapRead X e f)))
+    (says (isBefore (gapIn (gapRead X e f)) (ownerIn e) (ownerIn f) (rowRead e) (rowRead f)))
+
+unfoldable pub compareOff : Setup → Option Label → Option Label → Answer
+compareOff X e f =
+    settleOff (whyOff X e f (isOut (gapRead X e f) || isOut (gapRead X f e)))
+    (relates (relation (gapIn (gapRead X e f)) (gapIn (gapRead X f e))
+    (ownerIn e) (ownerIn f) (rowRead e) (rowRead f)))
+
+pub data Which : Type 0 where
+  First Second Neither : Which
+
+abbrev pub newer : Relation → Which
+newer After = First
+newer Same = First
+newer Before = Second
+newer Concurrent = Neither
+newer Crossed = Neither
+
+abbrev pub newestBy : Value → Which
+newestBy nothing = Neither
+newestBy (stamp j r) = Neither
+newestBy (sent p j r) = Neither
+newestBy (slot s) = Neither
+newestBy (says t) = Neither
+newestBy (relates r) = newer r
+newestBy (shows r) = Neither
+
+abbrev pub newestOff : Setup → Option Label → Option Label → Which
+newestOff X e f = newestBy (compareOff X e f .value)

@@ -1,0 +1,302 @@
+-- A book without its bytes, and one step function over any arithmetic of phases.
+-- Assumes nothing.
+--   Row              a pair for each desk
+--   Seat, Held       a desk's seat; what a used mail place or shelf slot holds
+--   Tables           the seats, the mail places and the shelf slots
+--   Act              a call on a book that is already there
+--   Value            what goes with the number 0
+--   Answer           a number of the answer table, and the value that goes with it
+--   used, rowIn, byIn, toIn   of a place or slot: whether it is used, its row, its sender or owner, its addressee
+--   zeros, idle, fresh        a row of zeros, a seat not started, the tables of a fresh book
+--   own b k          desk k's pair in its own seat
+--   limit X k        the clock values of desk k: 0 up to it, it left out
+--   freeMail b       the lowest free mail place, 32 where there is none; freeSlot likewise
+--   tick, turn       a pair after local, send or receive; after a reset
+--   grown, merged, turned   a desk's row after local and send; after receive; after reset
+--   near X d         d where it is within reach
+--   isBefore         whether the stamp of the first owner is before that of the second
+--   relation         how the first of two stamps stands to the second
+--   gapHeld          the difference between two slots by their lags, none where it is out of reach or a slot is free
+--   reasons Z X b c  when which number is given to the act c, in ascending order
+--   why Z X b c      the smallest number that is due, 0 where the act is accepted
+--   done Z X b c     what an accepted act answers and leaves
+--   step Z X b c     what an act answers and leaves: a refusal its number only, and the tables as they were
+use mathlib.Core.Bool.{Bool, true, false, not, _&&_, _||_}
+use mathlib.Core.Option.{Option, none, some}
+use mathlib.Core.List.{List, [], _∷_}
+use Prim.Native.Nat.{ℕ, zero, suc, _+_, _*_}
+use lib.Dec.{ltb, eqb}
+use Rattle.tools.specs.Tests.{pick, any, lowest}
+use Rattle.tools.specs.Tables.{put}
+use Rattle.tools.specs.Reasons.{Reason, first}
+use Rattle.ring.specs.Phases.{Phases, Pair, Gap, laterBy, lagGap, later}
+use Rattle.rules.specs.declared.Setup.{Setup}
+use Rattle.rules.specs.declared.Relation.{Relation}
+use Rattle.rules.specs.declared.Relation.the-variants.{Before, After, Same, Concurrent, Crossed}
+use Rattle.rules.specs.Numbers.{
+  NoDesk,
+  SameDesk,
+  NoPlace,
+  NotYours,
+  NoEvent,
+  PhaseFull,
+  MailFull,
+  ShelfFull,
+  SeatBehind,
+  MailBehind,
+  ShelfBehind,
+  NoRoom,
+  OutOfReach,
+  given,
+}
+
+abbrev pub Row : Type 0
+Row = ℕ → Pair
+
+pub record Seat : Type 0 where
+  pub started : Bool
+  pub row : Row
+
+-- mail is by its sender to its addressee; a kept stamp is by its owner, and to is 0
+pub record Held : Type 0 where
+  pub by : ℕ
+  pub to : ℕ
+  pub row : Row
+
+pub record Tables : Type 0 where
+  pub seat : ℕ → Seat
+  pub mail : ℕ → Option Held
+  pub shelf : ℕ → Option Held
+
+-- desks, places and slots by their numbers; write also has the bytes of room that it is lent
+pub data Act : Type 0 where
+  local reset keep drop discard show : ℕ → Act
+  send receive before compare write : ℕ → ℕ → Act
+
+-- a stamp is its owner and row; sent has the place in front
+pub data Value : Type 0 where
+  nothing : Value
+  stamp : ℕ → Row → Value
+  sent : ℕ → ℕ → Row → Value
+  slot : ℕ → Value
+  says : Bool → Value
+  relates : Relation → Value
+  shows : Row → Value
+
+pub record Answer : Type 0 where
+  pub number : ℕ
+  pub value : Value
+
+abbrev pub refusal : ℕ → Answer
+refusal n = record { number = n; value = nothing }
+
+abbrev pub accepted : Value → Answer
+accepted v = record { number = 0; value = v }
+
+pub record Result : Type 0 where
+  pub answer : Answer
+  pub tables : Tables
+
+abbrev pub used : Option Held → Bool
+used none = false
+used (some w) = true
+
+abbrev pub zeros : Row
+zeros k = record { phase = 0; clock = 0 }
+
+abbrev pub rowIn : Option Held → Row
+rowIn none = zeros
+rowIn (some w) = w .row
+
+abbrev pub byIn : Option Held → ℕ
+byIn none = 0
+byIn (some w) = w .by
+
+abbrev pub toIn : Option Held → ℕ
+toIn none = 0
+toIn (some w) = w .to
+
+abbrev pub idle : Seat
+idle = record { started = false; row = zeros }
+
+abbrev pub fresh : Tables
+fresh = record { seat = λ j. idle; mail = λ p. none; shelf = λ s. none }
+
+abbrev pub own : Tables → ℕ → Pair
+own b k = b .seat k .row k
+
+abbrev pub limit : Setup → ℕ → ℕ
+limit X k = X .clocks
+
+abbrev pub freeMail : Tables → ℕ
+freeMail b = lowest 32 (λ p. not (used (b .mail p)))
+
+abbrev pub freeSlot : Tables → ℕ
+freeSlot b = lowest 32 (λ s. not (used (b .shelf s)))
+
+abbrev pub tick : Pair → Pair
+tick q = record { phase = q .phase; clock = q .clock + 1 }
+
+abbrev pub grown : Tables → ℕ → Row
+grown b j = put (b .seat j .row) j (tick (own b j))
+
+-- a difference d within reach lies from -(m-1) to n-1
+abbrev pub near : Setup → Gap → Option Gap
+near X d = pick (ltb (d .up) (d .down + X .ahead) && ltb (d .down) (d .up + X .back)) (some d) none
+
+abbrev pub isOut : Option Gap → Bool
+isOut none = true
+isOut (some d) = false
+
+abbrev pub gapIn : Option Gap → Gap
+gapIn none = record { up = 0; down = 0 }
+gapIn (some d) = d
+
+abbrev pub sameBy : Gap → ℕ → ℕ → Bool
+sameBy d ce cf = eqb (d .down) (d .up) && eqb ce cf
+
+-- owners j of e and k of f; d the difference from e to f at desk j
+abbrev pub isBefore : Gap → ℕ → ℕ → Row → Row → Bool
+isBefore d j k e f =
+    laterBy d (e j .clock) (f j .clock) || (not (eqb j k) && sameBy d (e j .clock) (f j .clock))
+
+-- d′ the difference from f to e at desk k
+abbrev pub relation : Gap → Gap → ℕ → ℕ → Row → Row → Relation
+relation d d′ j k e f =
+    pick (eqb j k && sameBy d (e j .clock) (f j .clock)) Same
+    (pick (isBefore d j k e f)
+    (pick (isBefore d′ k j f e) Crossed Before)
+    (pick (isBefore d′ k j f e) After Concurrent))
+
+-- what the reasons ask
+abbrev pub noDesk : Setup → ℕ → Bool
+noDesk X j = not (ltb j (X .desks))
+
+abbrev pub noMail : Tables → ℕ → Bool
+noMail b p = not (used (b .mail p) && ltb p 32)
+
+abbrev pub noSlot : Tables → ℕ → Bool
+noSlot b s = not (used (b .shelf s) && ltb s 32)
+
+abbrev pub atLimit : Setup → Tables → ℕ → Bool
+atLimit X b j = not (ltb (own b j .clock + 1) (limit X j))
+
+-- an event at j that leaves row r, with the mail as given
+abbrev pub seated : Tables → ℕ → Row → ℕ → Seat
+seated b j r = put (b .seat) j (record { started = true; row = r })
+
+abbrev pub event : Tables → ℕ → Row → (ℕ → Option Held) → Value → Result
+event b j r mail v =
+    record { answer = accepted v; tables = record { seat = seated b j r; mail = mail; shelf = b .shelf } }
+
+-- an act that is no event, with the mail and the shelf as given
+abbrev pub filing : Tables → (ℕ → Option Held) → (ℕ → Option Held) → Value → Result
+filing b mail shelf v =
+    record { answer = accepted v; tables = record { seat = b .seat; mail = mail; shelf = shelf } }
+
+abbrev pub telling : Tables → Value → Result
+telling b v = record { answer = accepted v; tables = b }
+
+abbrev pub settle : ℕ → Tables → Result → Result
+settle zero b r = r
+settle (suc n) b r = record { answer = refusal (suc n); tables = b }
+
+module _ (Z : Phases) where
+  abbrev pub turn : Pair → Pair
+  turn q = record { phase = Z .next (q .phase); clock = 0 }
+
+  abbrev pub merged : Tables → ℕ → Row → Row
+  merged b j w = put (λ k. later Z (own b k .phase) (b .seat j .row k) (w k)) j (tick (own b j))
+
+  abbrev pub turned : Tables → ℕ → Row
+  turned b j = put (b .seat j .row) j (turn (own b j))
+
+  -- whether what is held lags just so far at desk j
+  abbrev pub lags : Tables → ℕ → ℕ → Option Held → Bool
+  lags b j bound none = false
+  lags b j bound (some w) = eqb (Z .lag (own b j .phase) (w .row j .phase)) bound
+
+  abbrev pub seatLags : Tables → ℕ → ℕ → ℕ → Bool
+  seatLags b j bound s = not (eqb s j) && eqb (Z .lag (own b j .phase) (b .seat s .row j .phase)) bound
+
+module _ (Z : Phases) (X : Setup) where
+  -- the difference at desk j between two kept rows, by their lags
+  abbrev pub gap : Tables → ℕ → Row → Row → Option Gap
+  gap b j e f = near X (lagGap Z (own b j .phase) (e j) (f j))
+
+  abbrev pub gapHeld : Tables → Option Held → Option Held → Option Gap
+  gapHeld b none f = none
+  gapHeld b (some e) none = none
+  gapHeld b (some e) (some f) = gap b (e .by) (e .row) (f .row)
+
+  abbrev pub gapFrom : Tables → ℕ → ℕ → Option Gap
+  gapFrom b s t = gapHeld b (b .shelf s) (b .shelf t)
+
+  unfoldable pub reasons : Tables → Act → List Reason
+  reasons b (local j) = given NoDesk (noDesk X j) ∷ given PhaseFull (atLimit X b j) ∷ []
+  reasons b (send j k) =
+      given NoDesk (noDesk X j || noDesk X k)
+      ∷ given SameDesk (eqb j k)
+      ∷ given PhaseFull (atLimit X b j)
+      ∷ given MailFull (not (ltb (freeMail b) 32))
+      ∷ []
+  reasons b (receive j p) =
+      given NoDesk (noDesk X j)
+      ∷ given NoPlace (noMail b p)
+      ∷ given NotYours (not (eqb (toIn (b .mail p)) j))
+      ∷ given PhaseFull (atLimit X b j)
+      ∷ []
+  reasons b (reset j) =
+      given NoDesk (noDesk X j)
+      ∷ given SeatBehind (any (X .desks) (seatLags Z b j (X .seatLag)))
+      ∷ given MailBehind (any 32 (λ p. lags Z b j (2 * X .seatLag) (b .mail p)))
+      ∷ given ShelfBehind (any 32 (λ s. lags Z b j (X .shelfLag) (b .shelf s)))
+      ∷ []
+  reasons b (keep j) =
+      given NoDesk (noDesk X j)
+      ∷ given NoEvent (not (b .seat j .started))
+      ∷ given ShelfFull (not (ltb (freeSlot b) 32))
+      ∷ []
+  reasons b (drop s) = given NoPlace (noSlot b s) ∷ []
+  reasons b (discard p) = given NoPlace (noMail b p) ∷ []
+  reasons b (before s t) =
+      given NoPlace (noSlot b s || noSlot b t)
+      ∷ given OutOfReach (isOut (gapFrom b s t))
+      ∷ []
+  reasons b (compare s t) =
+      given NoPlace (noSlot b s || noSlot b t)
+      ∷ given OutOfReach (isOut (gapFrom b s t) || isOut (gapFrom b t s))
+      ∷ []
+  reasons b (show s) = given NoPlace (noSlot b s) ∷ []
+  reasons b (write s room) = given NoPlace (noSlot b s) ∷ given NoRoom (ltb room 20) ∷ []
+
+  abbrev pub why : Tables → Act → ℕ
+  why b c = first (reasons b c)
+
+  unfoldable pub done : Tables → Act → Result
+  done b (local j) = event b j (grown b j) (b .mail) (stamp j (grown b j))
+  done b (send j k) =
+      event b j (grown b j) (put (b .mail) (freeMail b) (some record { by = j; to = k; row = grown b j }))
+      (sent (freeMail b) j (grown b j))
+  done b (receive j p) =
+      event b j (merged Z b j (rowIn (b .mail p))) (put (b .mail) p none)
+      (stamp j (merged Z b j (rowIn (b .mail p))))
+  done b (reset j) = event b j (turned Z b j) (b .mail) (stamp j (turned Z b j))
+  done b (keep j) =
+      filing b (b .mail) (put (b .shelf) (freeSlot b) (some record { by = j; to = 0; row = b .seat j .row }))
+      (slot (freeSlot b))
+  done b (drop s) = filing b (b .mail) (put (b .shelf) s none) nothing
+  done b (discard p) = filing b (put (b .mail) p none) (b .shelf) nothing
+  done b (before s t) =
+      telling b
+      (says (isBefore (gapIn (gapFrom b s t))
+      (byIn (b .shelf s)) (byIn (b .shelf t)) (rowIn (b .shelf s)) (rowIn (b .shelf t))))
+  done b (compare s t) =
+      telling b
+      (relates (relation (gapIn (gapFrom b s t)) (gapIn (gapFrom b t s))
+      (byIn (b .shelf s)) (byIn (b .shelf t)) (rowIn (b .shelf s)) (rowIn (b .shelf t))))
+  done b (show s) = telling b (shows (rowIn (b .shelf s)))
+  done b (write s room) = telling b (stamp (byIn (b .shelf s)) (rowIn (b .shelf s)))
+
+  unfoldable pub step : Tables → Act → Result
+  step b c = settle (why b c) b (done b c)

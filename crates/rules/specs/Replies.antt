@@ -1,0 +1,67 @@
+-- What the code's answers say: the paper's number and value for each case of each type of answer.
+-- Assumes nothing.
+--   rowByte r c     byte c of the sixteen bytes of a row: each desk's phase, then its clock
+--   rowBytes r      the sixteen bytes
+--   rowOf l         the row that sixteen bytes tell: eight desks, zero beyond
+--   stampedSays     what the answer to local, receive or reset says
+--   postedSays      what the answer to send says, its stamp beside it
+--   keptSays        what the answer to keep says
+--   toldSays        what the answer to before says
+--   comparedSays    what the answer to compare says
+--   Beside n s      the stamp s beside the number n: blank where n is a refusal
+use mathlib.Core.Path.{_≡_}
+use mathlib.Core.Bool.{true, false}
+use mathlib.Core.List.{List}
+use Prim.Native.Nat.{ℕ, zero, suc, _+_, _*_, _/_, _%_}
+use lib.Dec.{ltb, eqb}
+use lib.ListN.{replicate}
+use Rattle.tools.specs.Tests.{pick}
+use Rattle.tools.specs.Lists.{byte, tab}
+use Rattle.rules.specs.declared.Stamp.{Stamp}
+use Rattle.rules.specs.declared.Stamped.{Stamped}
+use Rattle.rules.specs.declared.Posted.{Posted}
+use Rattle.rules.specs.declared.Posted.the-variants as Posts
+use Rattle.rules.specs.declared.Kept.{Kept}
+use Rattle.rules.specs.declared.Kept.the-variants as Keeps
+use Rattle.rules.specs.declared.Told.{Told}
+use Rattle.rules.specs.declared.Told.the-variants as Tells
+use Rattle.rules.specs.declared.Compared.{Compared}
+use Rattle.rules.specs.declared.Compared.the-variants as Compares
+use Rattle.rules.specs.Model.{Row, stamp, sent, slot, says, relates, Answer, refusal, accepted, zeros}
+
+unfoldable pub rowByte : Row → ℕ → ℕ
+rowByte r c = pick (eqb (c % 2) 0) (r (c / 2) .phase) (r (c / 2) .clock)
+
+unfoldable pub rowBytes : Row → List ℕ
+rowBytes r = tab 0 16 (rowByte r)
+
+abbrev pub rowOf : List ℕ → Row
+rowOf l k = pick (ltb k 8) (record { phase = byte l (2 * k); clock = byte l (2 * k + 1) }) (zeros k)
+
+unfoldable pub stampedSays : Stamped → Answer
+stampedSays r =
+    pick (eqb (r .number) 0) (accepted (stamp (r .stamp .owner) (rowOf (r .stamp .row)))) (refusal (r .number))
+
+abbrev pub postedSays : Posted → Stamp → Answer
+postedSays (Posts.At p) s = accepted (sent p (s .owner) (rowOf (s .row)))
+postedSays (Posts.Refused n) s = refusal n
+
+abbrev pub keptSays : Kept → Answer
+keptSays (Keeps.Slot s) = accepted (slot s)
+keptSays (Keeps.Refused n) = refusal n
+
+abbrev pub toldSays : Told → Answer
+toldSays Tells.Yes = accepted (says true)
+toldSays Tells.No = accepted (says false)
+toldSays (Tells.Refused n) = refusal n
+
+abbrev pub comparedSays : Compared → Answer
+comparedSays (Compares.Is r) = accepted (relates r)
+comparedSays (Compares.Refused n) = refusal n
+
+abbrev pub blank : Stamp
+blank = record { owner = 0; row = replicate 16 0 }
+
+abbrev pub Beside : ℕ → Stamp → Type 0
+Beside zero s = Unit {0}
+Beside (suc n) s = s ≡ blank

@@ -1,0 +1,135 @@
+// The plain types of the rules, the answer numbers, and which setups are permitted.
+ghost use mathlib.Core.Path.{_≡_};
+ghost use Prim.Native.Nat.{_≤_};
+ghost use Rattle.rules.specs.Setups;
+
+// The answer table, by number. 0 is done.
+pub const DONE: u8 = 0;
+
+pub const BAD_BOOK: u8 = 1;
+
+pub const BAD_SETUP: u8 = 2;
+
+pub const NO_DESK: u8 = 3;
+
+pub const SAME_DESK: u8 = 4;
+
+pub const NO_PLACE: u8 = 5;
+
+pub const NOT_YOURS: u8 = 6;
+
+pub const NO_EVENT: u8 = 7;
+
+pub const PHASE_FULL: u8 = 8;
+
+pub const MAIL_FULL: u8 = 9;
+
+pub const SHELF_FULL: u8 = 10;
+
+pub const SEAT_BEHIND: u8 = 11;
+
+pub const MAIL_BEHIND: u8 = 12;
+
+pub const SHELF_BEHIND: u8 = 13;
+
+pub const BAD_STAMP: u8 = 14;
+
+pub const NO_ROOM: u8 = 15;
+
+pub const OUT_OF_REACH: u8 = 16;
+
+pub const BAD_LINE: u8 = 17;
+
+// The setup numbers D, P, L, M, A, m and n, wide enough for any number that comes in.
+pub struct Setup {
+    pub desks: usize,
+    pub phases: usize,
+    pub clocks: usize,
+    pub seatLag: usize,
+    pub shelfLag: usize,
+    pub back: usize,
+    pub ahead: usize,
+}
+
+// The owner of an event and its row, held together.
+pub struct Stamp {
+    pub owner: u8,
+    pub row: [u8; 16],
+}
+
+// What local, receive and reset answer: the number, and beside it the stamp, which is blank where the event is refused.
+pub struct Stamped {
+    pub number: u8,
+    pub stamp: Stamp,
+}
+
+// The mail place of a send, or the number of its refusal.
+pub enum Posted {
+    At(u8),
+    Refused(u8),
+}
+
+// What send answers: the place, and beside it the stamp, which is blank where the send is refused.
+pub struct Sent {
+    pub place: Posted,
+    pub stamp: Stamp,
+}
+
+// What keep answers.
+pub enum Kept {
+    Slot(u8),
+    Refused(u8),
+}
+
+// What before answers.
+pub enum Told {
+    Yes,
+    No,
+    Refused(u8),
+}
+
+// How the first of two stamps stands to the second.
+pub enum Relation {
+    Before,
+    After,
+    Same,
+    Concurrent,
+    Crossed,
+}
+
+// What compare answers.
+pub enum Compared {
+    Is(Relation),
+    Refused(u8),
+}
+
+fn in_range(s: Setup) -> bool
+    ensures { λ r. ⌜ r ≡ Setups.inRange s ⌝ }
+{
+    tools::within(2, 8, s.desks)
+        & (tools::within(3, 255, s.phases)
+            & (tools::within(2, 255, s.clocks)
+                & (tools::within(1, 127, s.seatLag)
+                    & (tools::within(1, 254, s.shelfLag)
+                        & (tools::within(1, 127, s.back) & tools::within(1, 127, s.ahead))))))
+}
+
+fn related(s: Setup) -> bool
+    requires { ⌜ (s .seatLag ≤ 127) × (s .shelfLag ≤ 254) × (s .phases ≤ 255) ⌝ }
+    requires { ⌜ (s .back ≤ 127) × (s .ahead ≤ 127) ⌝ }
+    ensures { λ r. ⌜ r ≡ Setups.related s ⌝ }
+{
+    (s.seatLag <= s.shelfLag)
+        & ((2 * s.seatLag + 1 <= s.phases)
+            & ((s.shelfLag + 1 <= s.phases) & (s.back + s.ahead <= s.phases + 1)))
+}
+
+// Whether a setup is permitted.
+pub fn permits(s: Setup) -> bool
+    ensures { λ r. ⌜ r ≡ Setups.permits s ⌝ }
+{
+    if !in_range(s) {
+        return false;
+    }
+    related(s)
+}
