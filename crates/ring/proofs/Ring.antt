@@ -83,3 +83,18 @@ later-lag Z o e f t = go (ltb (Z .lag o (f .phase)) (Z .lag o (e .phase))) refl 
         → Z .lag o (f .phase) ≤ Z .lag o (e .phase)
     go true q w = let l : Z .lag o (f .phase) < Z .lag o (e .phase) = ltb-true _ _ q in omega arith
     go false q w = let l : Z .lag o (f .phase) ≡ Z .lag o (e .phase) = eqb-true _ _ (and-true-l _ _ w) in omega arith
+
+-- the remainder by a compare, of two phases on the ring
+pub lag-ahead : (P own v : ℕ) → v ≤ own → own < P → lagOf P own v ≡ own - v
+lag-ahead P own v h l =
+    let e : own + P - v ≡ own - v + P = omega arith in
+    ap (λ n. n % P) e ∙ add-mod-right (own - v) P ∙ mod-eq-of-lt (omega arith)
+
+pub lag-round : (P own v : ℕ) → own < v → v < P → lagOf P own v ≡ P - (v - own)
+lag-round P own v h l = let e : own + P - v ≡ P - (v - own) = omega arith in ap (λ n. n % P) e ∙ mod-eq-of-lt (omega arith)
+
+pub next-round : (P v : ℕ) → v + 1 ≡ P → nextOf P v ≡ 0
+next-round P v e = ap (λ n. n % P) e ∙ mod-self P
+
+pub next-ahead : (P v : ℕ) → v + 1 < P → nextOf P v ≡ v + 1
+next-ahead P v l = mod-eq-of-lt l

@@ -1,0 +1,117 @@
+-- What a call leaves says what the rules say, and is sound.
+-- Assumes nothing.
+use Prim.Native.Nat.{ℕ, zero, suc}
+use mathlib.Core.Path.{_≡_, refl, sym, ap, _∙_}
+use mathlib.Core.Bool.{Bool, true, false, not}
+use mathlib.Core.List.{List}
+use mathlib.Core.Logic.{_⊎_, inl, inr}
+use native.Mathlib.Omega.{arith}
+use Rattle.tools.specs.Tests.{pick}
+use Rattle.rules.specs.declared.Setup.{Setup}
+use Rattle.rules.specs.Setups.{permits}
+use Rattle.rules.specs.Model.{Act, fresh, Answer, refusal}
+use Rattle.rules.specs.Calls.{Book, Call, start, on, Turn, ringOf, settled, call}
+use Rattle.rules.specs.Fits.{Fits}
+use Rattle.rules.proofs.Setups.{permitted}
+use Rattle.rules.proofs.Fits.{fresh-fits, step-fits}
+use Rattle.rules.proofs.Steps.{step-refused}
+use Rattle.book.specs.Layout.{fields, setupOf}
+use Rattle.book.specs.Sound.{sound}
+use Rattle.book.specs.Codec.{read, write, decode, encode}
+use Rattle.book.specs.Answers.{admits, turnOn, answerTo, leaves, bookAfter}
+use Rattle.book.proofs.Bytes.{layout-holds}
+use Rattle.book.proofs.Soundness.{sound-setup, sound-fits}
+use Rattle.book.proofs.Codec.{decode-encode}
+use Rattle.book.proofs.Kept.{holds-sound}
+
+pub answer-is : (s : List ℕ) (c : Call) → admits s c ≡ true → answerTo s c ≡ turnOn s c .answer
+unfolding answerTo
+answer-is s c a = rw (answerTo, a)
+
+-- a refused call leaves every byte
+pub refused : (s : List ℕ) (c : Call) → (answerTo s c .number ≡ 0 → ⊥) → bookAfter s c ≡ s
+unfolding bookAfter
+refused s c ne = go (answerTo s c .number) ne
+  where
+    go : (n : ℕ) → (n ≡ 0 → ⊥) → leaves n s (encode (turnOn s c .book)) ≡ s
+    go zero h = absurd (h refl)
+    go (suc n) h = refl
+
+pub accepted : (s : List ℕ) (c : Call) → answerTo s c .number ≡ 0 → bookAfter s c ≡ encode (turnOn s c .book)
+unfolding bookAfter
+accepted s c e = rw (bookAfter, e)
+
+-- a book that a call may leave: its setup is permitted and its tables fit
+pub record Whole (b : Book) : Type 0 where
+  pub setup : permits (b .setup) ≡ true
+  pub tables : Fits (b .setup) (b .tables)
+
+pub whole-sound : (b : Book) → Whole b → sound (encode b) ≡ true
+whole-sound b w = holds-sound (b .setup) (w .setup) (b .tables) (w .tables) (encode b) (layout-holds (write b))
+
+pub whole-decode : (b : Book) → Whole b → decode (encode b) ≡ b
+whole-decode b w = decode-encode (b .setup) (permitted (b .setup) (w .setup)) (b .tables) (w .tables)
+
+pub sound-whole : (s : List ℕ) → sound s ≡ true → Whole (decode s)
+sound-whole s h = record { setup = sound-setup s h; tables = sound-fits s h }
+
+-- every act on a sound book, accepted or not, ends with a whole book
+act-whole : (s : List ℕ) → sound s ≡ true → (c : Act) → Whole (turnOn s (on c) .book)
+unfolding call
+act-whole s h c =
+    record {
+      setup = sound-setup s h;
+      tables = step-fits (setupOf s) (permitted (setupOf s) (sound-setup s h)) (read (fields s)) (sound-fits s h) c;
+    }
+
+-- start by the rules: a fresh book, or BadSetup
+start-turn : (b : Book) (X : Setup) (Q : Turn → Type 0)
+    → (permits X ≡ true → Q (record { answer = refusal 0; book = record { setup = X; tables = fresh } }))
+    → Q (record { answer = refusal 2; book = b }) → Q (call ringOf b (start X))
+unfolding call
+start-turn b X Q fair bad = go (permits X) refl
+  where
+    go : (t : Bool) → permits X ≡ t
+        → Q (settled (pick (not t) 2 0) b (record { answer = refusal 0; book = record { setup = X; tables = fresh } }))
+    go true e = fair e
+    go false e = bad
+
+pub turn-whole : (s : List ℕ) (c : Call) → admits s c ≡ true → turnOn s c .answer .number ≡ 0 → Whole (turnOn s c .book)
+unfolding admits
+turn-whole s (start X) a z =
+    start-turn (decode s) X (λ t. t .answer .number ≡ 0 → Whole (t .book))
+    (λ p e. record { setup = p; tables = fresh-fits X (permitted X p) }) (λ e. absurd (omega arith)) z
+turn-whole s (on c) a z = act-whole s a c
+
+-- a refused call leaves the book as it was, by the rules too
+turn-same : (s : List ℕ) (c : Call) → (turnOn s c .answer .number ≡ 0 → ⊥) → turnOn s c .book ≡ decode s
+unfolding call
+turn-same s (start X) n =
+    start-turn (decode s) X (λ t. (t .answer .number ≡ 0 → ⊥) → t .book ≡ decode s) (λ p m. absurd (m refl)) (λ m. refl) n
+turn-same s (on c) n =
+    let e = step-refused (ringOf (setupOf s)) (setupOf s) (read (fields s)) c n in
+    λ i. record { setup = setupOf s; tables = e i }
+
+-- THE BRIDGE: what the bytes say after a call is what the rules say of what they said before
+pub after-decode : (s : List ℕ) (c : Call) → admits s c ≡ true → decode (bookAfter s c) ≡ turnOn s c .book
+unfolding bookAfter
+after-decode s c a =
+    ap (λ (d : Answer). decode (leaves (d .number) s (encode (turnOn s c .book)))) (answer-is s c a)
+    ∙ go (turnOn s c .answer .number) refl
+  where
+    go : (n : ℕ) → turnOn s c .answer .number ≡ n → decode (leaves n s (encode (turnOn s c .book))) ≡ turnOn s c .book
+    go zero e = whole-decode (turnOn s c .book) (turn-whole s c a e)
+    go (suc n) e = sym (turn-same s c (λ z. omega arith))
+
+-- every accepted call leaves a sound book, and no call spoils one
+pub after-sound : (s : List ℕ) (c : Call) → admits s c ≡ true → (turnOn s c .answer .number ≡ 0) ⊎ (sound s ≡ true) → sound (bookAfter s c) ≡ true
+unfolding bookAfter
+after-sound s c a h =
+    ap (λ (d : Answer). sound (leaves (d .number) s (encode (turnOn s c .book)))) (answer-is s c a)
+    ∙ go (turnOn s c .answer .number) refl h
+  where
+    go : (n : ℕ) → turnOn s c .answer .number ≡ n → (turnOn s c .answer .number ≡ 0) ⊎ (sound s ≡ true)
+        → sound (leaves n s (encode (turnOn s c .book))) ≡ true
+    go zero e q = whole-sound (turnOn s c .book) (turn-whole s c a e)
+    go (suc n) e (inl q) = absurd (omega arith)
+    go (suc n) e (inr q) = q

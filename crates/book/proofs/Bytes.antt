@@ -1,0 +1,157 @@
+-- Fields and bytes: the bytes of fields hold them, bytes that hold fields are theirs, and tell them.
+-- Assumes nothing.
+use Prim.Native.Nat.{ℕ, zero, suc, _+_, _*_, _-_, _/_, _%_, _<_, _≤_}
+use mathlib.Core.Path.{_≡_, refl, sym, ap, _∙_, subst}
+use mathlib.Core.List.{List}
+use mathlib.Core.Logic.{⊎-elim}
+use native.Mathlib.Omega.{arith}
+use borrow.Author.Tests.{lt-ltb, le-ltb, eq-eqb, ne-eqb}
+use lib.Seq.{ext-getD}
+use Rattle.tools.specs.Lists.{byte, tab}
+use Rattle.tools.proofs.Tests.{lt-or-le, eq-or-ne}
+use Rattle.tools.proofs.Lists.{length-tab, tab-at}
+use Rattle.rules.specs.declared.Setup.{Setup}
+use Rattle.rules.specs.Model.{Row}
+use Rattle.rules.specs.Replies.{rowByte}
+use Rattle.book.specs.Layout.{Record, Fields, spot, headByte, mark0, mark1, markedByte, recordByte, byteOf, layout, setupOf, rowAt, fields, Holds}
+
+-- a row by its bytes
+pub row-phase : (r : Row) (j : ℕ) → rowByte r (2 * j) ≡ r j .phase
+unfolding rowByte
+row-phase r j =
+    let e : (2 * j) % 2 ≡ 0 = omega arith in
+    let d : 2 * j / 2 ≡ j = omega arith in
+    rw (eq-eqb _ _ e, d)
+
+pub row-clock : (r : Row) (j : ℕ) → rowByte r (1 + 2 * j) ≡ r j .clock
+unfolding rowByte
+row-clock r j =
+    let e : (1 + 2 * j) % 2 ≡ 0 → ⊥ = omega arith in
+    let d : (1 + 2 * j) / 2 ≡ j = omega arith in
+    rw (ne-eqb _ _ e, d)
+
+-- rows that agree for eight desks have the same bytes
+pub row-alike : (r s : Row) → ((j : ℕ) → j < 8 → r j ≡ s j) → (c : ℕ) → c < 16 → rowByte r c ≡ rowByte s c
+unfolding rowByte
+row-alike r s h c l = rw (h (c / 2) (omega arith))
+
+-- the row that stands in the bytes
+pub row-at : (b : List ℕ) (k c : ℕ) → rowByte (rowAt b k) c ≡ byte b (spot k (4 + c))
+unfolding rowByte
+row-at b k c =
+    ⊎-elim (λ (e : c % 2 ≡ 0).
+    let j : spot k (4 + 2 * (c / 2)) ≡ spot k (4 + c) = omega arith in
+    rw (eq-eqb _ _ e) (ap (byte b) j))
+    (λ (e : c % 2 ≡ 0 → ⊥).
+    let j : spot k (5 + 2 * (c / 2)) ≡ spot k (4 + c) = omega arith in
+    rw (ne-eqb _ _ e) (ap (byte b) j)) (eq-or-ne (c % 2) 0)
+
+record-row : (k : ℕ) (r : Record) (c : ℕ) → recordByte k r (4 + c) ≡ rowByte (r .row) c
+unfolding markedByte
+record-row k r c =
+    let e : 4 + c - 4 ≡ c = omega arith in
+    rw (
+      ne-eqb (4 + c) 0 (omega arith),
+      ne-eqb (4 + c) 1 (omega arith),
+      ne-eqb (4 + c) 2 (omega arith),
+      ne-eqb (4 + c) 3 (omega arith),
+      e,
+    )
+
+-- byte by byte, a record is its mark, its tags and its row
+pub record-bytes : (k : ℕ) (r : Record) (Q : ℕ → ℕ → Type 0) → Q 0 (mark0 k) → Q 1 (mark1 k) → Q 2 (r .tagA) → Q 3 (r .tagB)
+    → ((c : ℕ) → c < 16 → Q (4 + c) (rowByte (r .row) c)) → (c : ℕ) → c < 20 → Q c (recordByte k r c)
+unfolding markedByte
+record-bytes k r Q q0 q1 q2 q3 q4 zero l = q0
+record-bytes k r Q q0 q1 q2 q3 q4 (suc zero) l = q1
+record-bytes k r Q q0 q1 q2 q3 q4 (suc (suc zero)) l = q2
+record-bytes k r Q q0 q1 q2 q3 q4 (suc (suc (suc zero))) l = q3
+record-bytes k r Q q0 q1 q2 q3 q4 (suc (suc (suc (suc c)))) l =
+    let e : 4 + c ≡ suc (suc (suc (suc c))) = omega arith in
+    subst (λ n. Q n (recordByte k r n)) e (subst (Q (4 + c)) (sym (record-row k r c)) (q4 c (omega arith)))
+
+-- the bytes that hold fields are those of the fields
+module _ (f : Fields) (b : List ℕ) (h : Holds f b) where
+  byte-is : (i : ℕ) → i < 1456 → byteOf f i ≡ byte b i
+  unfolding byteOf
+  byte-is i l =
+      ⊎-elim (λ (m : i < 16). rw (lt-ltb _ _ m) (h .head i m))
+      (λ (m : 16 ≤ i).
+      let j : spot ((i - 16) / 20) ((i - 16) % 20) ≡ i = omega arith in
+      rw (le-ltb _ _ m) (h .there ((i - 16) / 20) ((i - 16) % 20) (omega arith) (omega arith) ∙ ap (byte b) j)) (lt-or-le i 16)
+
+  pub layout-is : layout f ≡ b
+  unfolding layout
+  layout-is =
+      ext-getD 0 (tab 0 1456 (byteOf f)) b (length-tab 0 1456 (byteOf f) ∙ sym (h .size))
+      (λ i l.
+      let m : i < 1456 = rw length-tab at l in
+      tab-at 1456 (byteOf f) i m ∙ byte-is i m)
+
+pub layout-holds : (f : Fields) → Holds f (layout f)
+unfolding layout byteOf
+layout-holds f =
+    record {
+      size = length-tab 0 1456 (byteOf f);
+      head = λ i l. sym (tab-at 1456 (byteOf f) i (omega arith) ∙ rw (lt-ltb i 16 l));
+      there =
+          λ k c lk lc.
+          let d : (spot k c - 16) / 20 ≡ k = omega arith in
+          let m : (spot k c - 16) % 20 ≡ c = omega arith in
+          sym (tab-at 1456 (byteOf f) (spot k c) (omega arith) ∙ rw (le-ltb (spot k c) 16 (omega arith), d, m));
+    }
+
+-- what the bytes that hold fields tell of them
+module _ (f : Fields) (b : List ℕ) (h : Holds f b) where
+  pub setup-is : setupOf b ≡ f .setup
+  unfolding headByte
+  setup-is =
+      λ i. record {
+        desks = sym (h .head 2 (omega arith)) i;
+        phases = sym (h .head 3 (omega arith)) i;
+        clocks = sym (h .head 4 (omega arith)) i;
+        seatLag = sym (h .head 5 (omega arith)) i;
+        shelfLag = sym (h .head 6 (omega arith)) i;
+        back = sym (h .head 7 (omega arith)) i;
+        ahead = sym (h .head 8 (omega arith)) i;
+      }
+
+  pub tagA-is : (k : ℕ) → k < 72 → byte b (spot k 2) ≡ f .at k .tagA
+  unfolding markedByte
+  tagA-is k l = sym (h .there k 2 l (omega arith))
+
+  pub tagB-is : (k : ℕ) → k < 72 → byte b (spot k 3) ≡ f .at k .tagB
+  unfolding markedByte
+  tagB-is k l = sym (h .there k 3 l (omega arith))
+
+  pub row-byte-is : (k c : ℕ) → k < 72 → c < 16 → byte b (spot k (4 + c)) ≡ rowByte (f .at k .row) c
+  row-byte-is k c lk lc = sym (sym (record-row k (f .at k) c) ∙ h .there k (4 + c) lk (omega arith))
+
+  pub pair-is : (k j : ℕ) → k < 72 → j < 8 → rowAt b k j ≡ f .at k .row j
+  pair-is k j lk lj =
+      let s : spot k (5 + 2 * j) ≡ spot k (4 + (1 + 2 * j)) = omega arith in
+      let p = row-byte-is k (2 * j) lk (omega arith) ∙ row-phase (f .at k .row) j in
+      let q = ap (byte b) s ∙ row-byte-is k (1 + 2 * j) lk (omega arith) ∙ row-clock (f .at k .row) j in
+      λ i. record { phase = p i; clock = q i }
+
+-- records that agree in their tags and for eight desks
+abbrev pub Alike : Record → Record → Type 0
+Alike r s = (r .tagA ≡ s .tagA) × (r .tagB ≡ s .tagB) × ((j : ℕ) → j < 8 → r .row j ≡ s .row j)
+
+pub alike-bytes : (k : ℕ) (r s : Record) → Alike r s → (c : ℕ) → c < 20 → recordByte k r c ≡ recordByte k s c
+unfolding markedByte
+alike-bytes k r s a =
+    record-bytes k r (λ c v. v ≡ recordByte k s c) refl refl (a .0) (a .1)
+    (λ c l. row-alike (r .row) (s .row) (a .2) c l ∙ sym (record-row k s c))
+
+pub holds-alike : (f g : Fields) (b : List ℕ) → f .setup ≡ g .setup → ((k : ℕ) → k < 72 → Alike (f .at k) (g .at k))
+    → Holds f b → Holds g b
+holds-alike f g b e a h =
+    record {
+      size = h .size;
+      head = λ i l. ap (λ (X : Setup). headByte X i) (sym e) ∙ h .head i l;
+      there = λ k c lk lc. sym (alike-bytes k (f .at k) (g .at k) (a k lk) c lc) ∙ h .there k c lk lc;
+    }
+
+pub fields-alike : (f : Fields) (b : List ℕ) → Holds f b → (k : ℕ) → k < 72 → Alike ((fields b) .at k) (f .at k)
+fields-alike f b h k l = (tagA-is f b h k l, tagB-is f b h k l, λ j lj. pair-is f b h k j l lj)

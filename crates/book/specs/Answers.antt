@@ -1,0 +1,77 @@
+-- What every call answers, and every byte that it leaves. The contracts of the portal and demand 3 speak of these two.
+-- Assumes nothing.
+--   admits s c     the call c does not find a bad book; start asks only the length
+--   turnOn s c     what the call does by the rules, on the ring
+--   answerTo s c   the answer to the call c on the bytes s: number and value, BadBook first
+--   bookAfter s c  the bytes that the call c leaves: the same ones where it is refused
+--   partIn v       the sixteen bytes that a show hands back with the value v; none with any other value
+--   recordIn D v   the stamp record that a write fills in with the value v; none with any other value
+--   partOf s k     what show of slot k hands back of the bytes s
+--   targetAfter s k t   what write of slot k makes of the target t
+use Prim.Native.Nat.{ℕ, zero, suc}
+use mathlib.Core.Bool.{Bool}
+use mathlib.Core.List.{List, []}
+use lib.Dec.{eqb}
+use lib.ListN.{length}
+use Rattle.tools.specs.Tests.{pick}
+use Rattle.rules.specs.Model.{
+  show,
+  write,
+  Value,
+  nothing,
+  stamp,
+  sent,
+  slot,
+  says,
+  relates,
+  shows,
+  Answer,
+  refusal,
+}
+use Rattle.rules.specs.Numbers.{BadBook, number}
+use Rattle.rules.specs.Calls.{Call, start, on, Turn, ringOf, call}
+use Rattle.rules.specs.Replies.{rowBytes}
+use Rattle.book.specs.Sound.{sound}
+use Rattle.book.specs.Codec.{decode, encode}
+use Rattle.book.specs.Stamps.{writeStamp, filled}
+
+unfoldable pub admits : List ℕ → Call → Bool
+admits s (start X) = eqb (length s) 1456
+admits s (on c) = sound s
+
+abbrev pub turnOn : List ℕ → Call → Turn
+turnOn s c = call ringOf (decode s) c
+
+unfoldable pub answerTo : List ℕ → Call → Answer
+answerTo s c = pick (admits s c) (turnOn s c .answer) (refusal (number BadBook))
+
+abbrev pub leaves : ℕ → List ℕ → List ℕ → List ℕ
+leaves zero s new = new
+leaves (suc n) s new = s
+
+unfoldable pub bookAfter : List ℕ → Call → List ℕ
+bookAfter s c = leaves (answerTo s c .number) s (encode (turnOn s c .book))
+
+abbrev pub partIn : Value → List ℕ
+partIn nothing = []
+partIn (stamp j r) = []
+partIn (sent p j r) = []
+partIn (slot i) = []
+partIn (says t) = []
+partIn (relates r) = []
+partIn (shows r) = rowBytes r
+
+abbrev pub recordIn : ℕ → Value → List ℕ
+recordIn D nothing = []
+recordIn D (stamp j r) = writeStamp D (record { owner = j; row = r })
+recordIn D (sent p j r) = []
+recordIn D (slot i) = []
+recordIn D (says t) = []
+recordIn D (relates r) = []
+recordIn D (shows r) = []
+
+abbrev pub partOf : List ℕ → ℕ → List ℕ
+partOf s k = partIn (answerTo s (on (show k)) .value)
+
+abbrev pub targetAfter : List ℕ → ℕ → List ℕ → List ℕ
+targetAfter s k t = filled t (recordIn (decode s .setup .desks) (answerTo s (on (write k (length t))) .value))

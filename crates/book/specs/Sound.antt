@@ -1,0 +1,81 @@
+-- When the bytes of a book are sound, clause by clause.
+-- Assumes nothing.
+--   pairOk X B o j q   the pair q for desk j is in range and lags at most B behind o; zero where there is no desk j
+--   rowOk f B k        so is every pair of the row of record k
+--   rowZero f k        the row of record k is all zero
+--   seatOk, mailOk, slotOk, recordOk   what is asked of record k
+--   headOk b           the header's mark and its filler
+--   recordSound b k    the mark of record k, and what is asked of it
+--   sound b            the bytes are those of a sound book
+use Prim.Native.Nat.{ℕ, _+_, _*_}
+use mathlib.Core.Bool.{Bool, true, not}
+use mathlib.Core.List.{List, [], _∷_}
+use lib.Dec.{leb, ltb, eqb}
+use lib.ListN.{length}
+use Rattle.tools.specs.Tests.{pick, allOf, allBelow}
+use Rattle.tools.specs.Lists.{byte}
+use Rattle.ring.specs.Phases.{Pair, lagOf}
+use Rattle.rules.specs.declared.Setup.{Setup}
+use Rattle.rules.specs.Setups.{permits}
+use Rattle.rules.specs.Model.{limit}
+use Rattle.book.specs.Layout.{Fields, fields, setupOf, spot, mark0, mark1}
+
+unfoldable pub pairOk : Setup → ℕ → ℕ → ℕ → Pair → Bool
+pairOk X B o j q =
+    pick (ltb j (X .desks))
+    (allOf (ltb (q .phase) (X .phases) ∷ ltb (q .clock) (limit X j) ∷ leb (lagOf (X .phases) o (q .phase)) B ∷ []))
+    (allOf (eqb (q .phase) 0 ∷ eqb (q .clock) 0 ∷ []))
+
+unfoldable pub columnOk : Fields → ℕ → ℕ → ℕ → Bool
+columnOk f B k j = pairOk (f .setup) B (f .at j .row j .phase) j (f .at k .row j)
+
+unfoldable pub rowOk : Fields → ℕ → ℕ → Bool
+rowOk f B k = allBelow 8 (columnOk f B k)
+
+unfoldable pub columnZero : Fields → ℕ → ℕ → Bool
+columnZero f k j = allOf (eqb (f .at k .row j .phase) 0 ∷ eqb (f .at k .row j .clock) 0 ∷ [])
+
+unfoldable pub rowZero : Fields → ℕ → Bool
+rowZero f k = allBelow 8 (columnZero f k)
+
+-- a seat that has not started has an all-zero row, and one that has is a desk's
+unfoldable pub seatRest : Fields → ℕ → Bool
+seatRest f k = pick (eqb (f .at k .tagA) 0) (rowZero f k) (ltb k (f .setup .desks))
+
+unfoldable pub seatNear : Fields → ℕ → Bool
+seatNear f k = pick (ltb k (f .setup .desks)) (rowOk f (f .setup .seatLag) k) true
+
+unfoldable pub seatOk : Fields → ℕ → Bool
+seatOk f k = allOf (leb (f .at k .tagA) 1 ∷ eqb (f .at k .tagB) 0 ∷ seatRest f k ∷ seatNear f k ∷ [])
+
+unfoldable pub mailOk : Fields → ℕ → Bool
+mailOk f k =
+    pick (eqb (f .at k .tagA) 0) (allOf (eqb (f .at k .tagB) 0 ∷ rowZero f k ∷ []))
+    (allOf
+    (leb (f .at k .tagA) (f .setup .desks)
+    ∷ leb 1 (f .at k .tagB)
+    ∷ leb (f .at k .tagB) (f .setup .desks)
+    ∷ not (eqb (f .at k .tagA) (f .at k .tagB))
+    ∷ rowOk f (2 * f .setup .seatLag) k
+    ∷ []))
+
+unfoldable pub slotOk : Fields → ℕ → Bool
+slotOk f k =
+    pick (eqb (f .at k .tagA) 0) (allOf (eqb (f .at k .tagB) 0 ∷ rowZero f k ∷ []))
+    (allOf (eqb (f .at k .tagB) 0 ∷ leb (f .at k .tagA) (f .setup .desks) ∷ rowOk f (f .setup .shelfLag) k ∷ []))
+
+unfoldable pub recordOk : Fields → ℕ → Bool
+recordOk f k = pick (ltb k 8) (seatOk f k) (pick (ltb k 40) (mailOk f k) (slotOk f k))
+
+unfoldable pub spareZero : List ℕ → ℕ → Bool
+spareZero b i = eqb (byte b (9 + i)) 0
+
+unfoldable pub headOk : List ℕ → Bool
+headOk b = allOf (eqb (byte b 0) 0x42 ∷ eqb (byte b 1) 0x4B ∷ allBelow 7 (spareZero b) ∷ [])
+
+unfoldable pub recordSound : List ℕ → ℕ → Bool
+recordSound b k =
+    allOf (eqb (byte b (spot k 0)) (mark0 k) ∷ eqb (byte b (spot k 1)) (mark1 k) ∷ recordOk (fields b) k ∷ [])
+
+unfoldable pub sound : List ℕ → Bool
+sound b = allOf (eqb (length b) 1456 ∷ headOk b ∷ permits (setupOf b) ∷ allBelow 72 (recordSound b) ∷ [])

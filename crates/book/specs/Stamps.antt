@@ -1,0 +1,54 @@
+-- Stamp records: twenty bytes, laid out as the records of a book are.
+-- Assumes nothing.
+--   stampByte D e c   byte c of the record of the stamp e: mark 53 54, owner, D, row
+--   writeStamp D e    the record
+--   pairReads X j q   the pair q for desk j is in range; zero where there is no desk j
+--   readOk X r        the bytes r read as a record under the setup X, clause by clause
+--   labelOf r         the stamp that the record r tells
+--   readStamp X r     the stamp, or none where r does not read
+--   filled t w        the bytes t with those of w in front, the rest as they were
+use Prim.Native.Nat.{ℕ, _+_, _*_}
+use mathlib.Core.Bool.{Bool}
+use mathlib.Core.Option.{Option, none, some}
+use mathlib.Core.List.{List, [], _∷_, _++_}
+use lib.Dec.{ltb, eqb}
+use lib.ListN.{length, drop}
+use Rattle.tools.specs.Tests.{pick, allOf, allBelow}
+use Rattle.tools.specs.Lists.{byte, tab}
+use Rattle.ring.specs.Phases.{Pair}
+use Rattle.rules.specs.declared.Setup.{Setup}
+use Rattle.rules.specs.Model.{limit}
+use Rattle.rules.specs.Labels.{Label}
+use Rattle.rules.specs.Replies.{rowOf}
+use Rattle.book.specs.Layout.{markedByte}
+
+abbrev pub stampByte : ℕ → Label → ℕ → ℕ
+stampByte D e c = markedByte 0x53 0x54 (record { tagA = e .owner; tagB = D; row = e .row }) c
+
+unfoldable pub writeStamp : ℕ → Label → List ℕ
+writeStamp D e = tab 0 20 (stampByte D e)
+
+abbrev pub labelOf : List ℕ → Label
+labelOf r = record { owner = byte r 2; row = rowOf (drop 4 r) }
+
+unfoldable pub pairReads : Setup → ℕ → Pair → Bool
+pairReads X j q =
+    pick (ltb j (X .desks)) (allOf (ltb (q .phase) (X .phases) ∷ ltb (q .clock) (limit X j) ∷ []))
+    (allOf (eqb (q .phase) 0 ∷ eqb (q .clock) 0 ∷ []))
+
+unfoldable pub readOk : Setup → List ℕ → Bool
+readOk X r =
+    allOf
+    (eqb (length r) 20
+    ∷ eqb (byte r 0) 0x53
+    ∷ eqb (byte r 1) 0x54
+    ∷ ltb (byte r 2) (X .desks)
+    ∷ eqb (byte r 3) (X .desks)
+    ∷ allBelow 8 (λ j. pairReads X j (labelOf r .row j))
+    ∷ [])
+
+unfoldable pub readStamp : Setup → List ℕ → Option Label
+readStamp X r = pick (readOk X r) (some (labelOf r)) none
+
+unfoldable pub filled : List ℕ → List ℕ → List ℕ
+filled t w = w ++ drop (length w) t

@@ -1,0 +1,1 @@
+// The bytes of a book: definitions and laws alone; no code.

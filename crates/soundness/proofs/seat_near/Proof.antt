@@ -1,0 +1,40 @@
+-- `soundness::seat_near` meets its contract.
+-- Assumes nothing.
+use Rattle.book.specs.Sound.{seatNear}
+use Rattle.tools.specs.Lists.{byte}
+use borrow.Author.Tests.{lt-ltb, le-ltb}
+use native.Mathlib.Omega.{arith}
+use borrow.Author.Needs.{needs}
+use Rattle.soundness.proofs.seat_near.Statement.{statement}
+use Rattle.soundness.proofs.seat_near.Tie as tie
+
+desks-of-requires : tie.Need-desks-of-requires
+desks-of-requires c κs = search needs
+
+seat-lag-of-requires : tie.Need-seat-lag-of-requires
+seat-lag-of-requires c κs = search needs
+
+wide-requires : tie.Need-wide-requires
+wide-requires c κs = search needs
+
+row-ok-requires : tie.Need-row-ok-requires
+row-ok-requires c κs = search needs
+
+returns : tie.Need-returns
+unfolding seatNear
+returns c = let a = c .before .before .before .before .before .before .args in rw (seatNear, lt-ltb (a .k) (byte (a .book .now) 2) (omega arith)) (cc)
+
+returns-2 : tie.Need-returns-2
+unfolding seatNear
+returns-2 c = let a = c .before .before .before .args in rw (seatNear, le-ltb (a .k) (byte (a .book .now) 2) (omega arith))
+
+pub seat-near-spec : {M : Type 1} → statement M
+seat-near-spec =
+    tie.close
+    (tie.spec
+    desks-of-requires
+    seat-lag-of-requires
+    wide-requires
+    row-ok-requires
+    returns
+    returns-2)

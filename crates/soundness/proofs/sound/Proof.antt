@@ -1,0 +1,41 @@
+-- `soundness::sound` meets its contract.
+-- Assumes nothing.
+use Rattle.book.specs.Sound.{sound}
+use Rattle.tools.specs.Tests.{allOf}
+use Rattle.tools.proofs.Tests.{not-each}
+use borrow.Author.Tests.{eq-eqb, ne-eqb}
+use mathlib.Core.Path.{sym}
+use borrow.Author.Needs.{needs}
+use Rattle.soundness.proofs.sound.Statement.{statement}
+use Rattle.soundness.proofs.sound.Tie as tie
+
+returns : tie.Need-returns
+unfolding sound
+returns c = sym (not-each _ 0 (ne-eqb _ _ (c .if1 .taken)))
+
+head-ok-requires : tie.Need-head-ok-requires
+head-ok-requires c κs = search needs
+
+setup-of-requires : tie.Need-setup-of-requires
+setup-of-requires c κs = search needs
+
+permits-requires : tie.Need-permits-requires
+permits-requires c κs = search needs
+
+records-sound-requires : tie.Need-records-sound-requires
+records-sound-requires c κs = search needs
+
+returns-2 : tie.Need-returns-2
+unfolding sound allOf
+returns-2 c = rw (sound, eq-eqb _ _ (c .before .before .before .before .if1 .left)) (cc)
+
+pub sound-spec : {M : Type 1} → statement M
+sound-spec =
+    tie.close
+    (tie.spec
+    returns
+    head-ok-requires
+    setup-of-requires
+    permits-requires
+    records-sound-requires
+    returns-2)
