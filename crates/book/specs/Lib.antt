@@ -4,3 +4,4 @@ pub mod Sound
 pub mod Codec
 pub mod Stamps
 pub mod Answers
+pub mod Numbers

@@ -1,0 +1,38 @@
+-- What the tables of bytes say, byte by byte, and what a sound book's setup bytes are good for.
+-- Assumes nothing.
+use Prim.Native.Nat.{ℕ, _+_, _<_, _≤_}
+use mathlib.Core.Path.{_≡_, refl, ap, _∙_}
+use mathlib.Core.Bool.{true}
+use mathlib.Core.List.{List}
+use borrow.Author.Tests.{lt-ltb}
+use Rattle.tools.specs.Lists.{byte}
+use Rattle.rules.specs.Model.{Row, Held, own}
+use mathlib.Core.Option.{Option}
+use Rattle.rules.proofs.Setups.{permitted}
+use Rattle.book.specs.Layout.{rowAt, setupOf, fields}
+use Rattle.book.specs.Sound.{sound}
+use Rattle.book.specs.Codec.{readRow, readHeld}
+use Rattle.book.specs.Numbers.{tablesOf}
+use Rattle.book.proofs.Soundness.{sound-setup}
+
+pub seat-row : (s : List ℕ) (j : ℕ) → j < 8 → tablesOf s .seat j .row ≡ readRow (rowAt s j)
+seat-row s j l = rw (lt-ltb j 8 l)
+
+pub read-at : (r : Row) (j : ℕ) → j < 8 → readRow r j ≡ r j
+read-at r j l = rw (lt-ltb j 8 l)
+
+pub own-at : (s : List ℕ) (j : ℕ) → j < 8 → own (tablesOf s) j ≡ rowAt s j j
+own-at s j l = ap (λ (r : Row). r j) (seat-row s j l) ∙ read-at (rowAt s j) j l
+
+pub mail-at : (s : List ℕ) (p : ℕ) → p < 32 → tablesOf s .mail p ≡ readHeld (fields s .at (8 + p))
+mail-at s p l = rw (lt-ltb p 32 l)
+
+pub slot-at : (s : List ℕ) (p : ℕ) → p < 32 → tablesOf s .shelf p ≡ readHeld (fields s .at (40 + p))
+slot-at s p l = rw (lt-ltb p 32 l)
+
+-- no more than eight desks, and a clock may grow without leaving its byte
+pub few-desks : (s : List ℕ) → sound s ≡ true → byte s 2 ≤ 8
+few-desks s h = permitted (setupOf s) (sound-setup s h) .few
+
+pub room : (s : List ℕ) → sound s ≡ true → byte s 4 ≤ 255
+room s h = permitted (setupOf s) (sound-setup s h) .ticks
