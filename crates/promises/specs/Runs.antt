@@ -1,0 +1,28 @@
+-- A run of calls over bytes, and the same calls with phases that never come round.
+-- Assumes nothing.
+--   bytesAfter s cs    the bytes that the calls cs leave, from the bytes s on
+--   answersOn s cs     what each of the calls is answered on the bytes
+--   lineAnswer t c     what the call c is answered in the state t of the line, its phases come round
+--   lineAnswers t cs   what each of the calls is answered on the line, its phases come round
+use Prim.Native.Nat.{ℕ}
+use mathlib.Core.List.{List, [], _∷_}
+use Rattle.rules.specs.Model.{Answer}
+use Rattle.rules.specs.Calls.{Call, lineOf, call}
+use Rattle.rules.specs.History.{State, next}
+use Rattle.rules.specs.Round.{roundAnswer}
+use Rattle.book.specs.Answers.{answerTo, bookAfter}
+
+unfoldable pub bytesAfter : List ℕ → List Call → List ℕ
+bytesAfter s [] = s
+bytesAfter s (c ∷ cs) = bytesAfter (bookAfter s c) cs
+
+unfoldable pub answersOn : List ℕ → List Call → List Answer
+answersOn s [] = []
+answersOn s (c ∷ cs) = answerTo s c ∷ answersOn (bookAfter s c) cs
+
+abbrev pub lineAnswer : State → Call → Answer
+lineAnswer t c = roundAnswer (t .book .setup .phases) (call lineOf (t .book) c .answer)
+
+unfoldable pub lineAnswers : State → List Call → List Answer
+lineAnswers t [] = []
+lineAnswers t (c ∷ cs) = lineAnswer t c ∷ lineAnswers (next t c) cs
