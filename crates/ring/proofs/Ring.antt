@@ -8,9 +8,10 @@ use native.Mathlib.Omega.{arith}
 use native.Mathlib.Nat.{mod-lt, mod-eq-of-lt, mod-add-mod, add-mod-right, mod-eq-sub-mod, mod-self}
 use native.Mathlib.Decide.{decLt}
 use lib.Dec.{ltb, eqb}
-use borrow.Author.Tests.{eqb-true, ltb-true}
-use Rattle.tools.proofs.Tests.{and-true-l}
-use Rattle.ring.specs.Phases.{Pair, Phases, lagOf, nextOf, laterBy, isLater}
+use borrow.Author.Tests.{eqb-true, eq-eqb, ltb-true, ltb-false, lt-ltb, le-ltb}
+use Rattle.tools.proofs.Tests.{and-true-l, or-false-l}
+use Rattle.tools.specs.Tests.{pick}
+use Rattle.ring.specs.Phases.{Pair, Phases, ring, lagOf, nextOf, laterBy, isLater, later}
 
 pub lag-below : (P own v : ℕ) → 0 < P → lagOf P own v < P
 lag-below P own v h = mod-lt (own + P - v) h
@@ -23,6 +24,23 @@ pub lag-self : (P v : ℕ) → lagOf P v v ≡ 0
 lag-self P v =
     let e : v + P - v ≡ P = omega arith in
     ap (λ n. n % P) e ∙ mod-self P
+
+-- the remainder by a compare, of two phases on the ring
+pub lag-down : (P own v : ℕ) → v ≤ own → own < P → lagOf P own v ≡ own - v
+lag-down P own v l h =
+    let e : own + P - v ≡ own - v + P = omega arith in
+    ap (λ n. n % P) e ∙ add-mod-right (own - v) P ∙ mod-eq-of-lt (omega arith)
+
+pub lag-round : (P own v : ℕ) → own < v → v < P → lagOf P own v ≡ own + P - v
+lag-round P own v l h = mod-eq-of-lt (omega arith)
+
+-- every other phase lags
+pub lag-other : (P own v : ℕ) → own < P → v < P → (v ≡ own → ⊥) → 0 < lagOf P own v
+lag-other P own v ho hv ne = go (decLt own v)
+  where
+    go : Dec (own < v) → 0 < lagOf P own v
+    go (no l) = rw (lag-down P own v (omega arith) ho) (omega arith)
+    go (yes l) = rw (lag-round P own v l hv) (omega arith)
 
 -- a reset makes every lag grow by one
 pub lag-next : (P own v : ℕ) → v < P → lagOf P own v + 1 < P → lagOf P (nextOf P own) v ≡ lagOf P own v + 1
@@ -73,6 +91,23 @@ ring-back P o v h l =
     e : o + (P - (o - v)) ≡ v + P
     e = omega arith
 
+-- turning both sides by the same amount changes no lag, and goes with next: no phase is special
+pub turn-lag : (P t own v : ℕ) → own < P → v < P → lagOf P ((own + t) % P) ((v + t) % P) ≡ lagOf P own v
+turn-lag P t own v ho hv = go (decLt own v)
+  where
+    go : Dec (own < v) → lagOf P ((own + t) % P) ((v + t) % P) ≡ lagOf P own v
+    go (no l) =
+        let e : own + t - (v + t) ≡ own - v = omega arith in
+        ring-lag P (own + t) (v + t) (omega arith) (omega arith) ∙ e ∙ sym (lag-down P own v (omega arith) ho)
+    go (yes l) =
+        let e : P - (v + t - (own + t)) ≡ own + P - v = omega arith in
+        ring-back P (v + t) (own + t) (omega arith) (omega arith) ∙ e ∙ sym (lag-round P own v l hv)
+
+pub turn-next : (P t v : ℕ) → nextOf P ((v + t) % P) ≡ (nextOf P v + t) % P
+turn-next P t v =
+    let e : v + t + 1 ≡ v + 1 + t = omega arith in
+    mod-add-mod (v + t) P 1 ∙ ap (λ n. n % P) e ∙ sym (mod-add-mod (v + 1) P t)
+
 -- the later of two pairs lags no more, in any arithmetic
 pub later-lag : (Z : Phases) (o : ℕ) (e f : Pair) → isLater Z o f e ≡ true → Z .lag o (f .phase) ≤ Z .lag o (e .phase)
 unfolding laterBy
@@ -84,17 +119,37 @@ later-lag Z o e f t = go (ltb (Z .lag o (f .phase)) (Z .lag o (e .phase))) refl 
     go true q w = let l : Z .lag o (f .phase) < Z .lag o (e .phase) = ltb-true _ _ q in omega arith
     go false q w = let l : Z .lag o (f .phase) ≡ Z .lag o (e .phase) = eqb-true _ _ (and-true-l _ _ w) in omega arith
 
--- the remainder by a compare, of two phases on the ring
-pub lag-ahead : (P own v : ℕ) → v ≤ own → own < P → lagOf P own v ≡ own - v
-lag-ahead P own v h l =
-    let e : own + P - v ≡ own - v + P = omega arith in
-    ap (λ n. n % P) e ∙ add-mod-right (own - v) P ∙ mod-eq-of-lt (omega arith)
-
-pub lag-round : (P own v : ℕ) → own < v → v < P → lagOf P own v ≡ P - (v - own)
-lag-round P own v h l = let e : own + P - v ≡ P - (v - own) = omega arith in ap (λ n. n % P) e ∙ mod-eq-of-lt (omega arith)
-
+-- the next phase by a compare
 pub next-round : (P v : ℕ) → v + 1 ≡ P → nextOf P v ≡ 0
 next-round P v e = ap (λ n. n % P) e ∙ mod-self P
 
 pub next-ahead : (P v : ℕ) → v + 1 < P → nextOf P v ≡ v + 1
 next-ahead P v l = mod-eq-of-lt l
+
+-- a pair that is not later lags no less
+not-later-lag : (Z : Phases) (o : ℕ) (e f : Pair) → isLater Z o f e ≡ false → Z .lag o (e .phase) ≤ Z .lag o (f .phase)
+unfolding laterBy
+not-later-lag Z o e f t = ltb-false _ _ (or-false-l (ltb (Z .lag o (f .phase)) (Z .lag o (e .phase))) _ t)
+
+-- the later of two pairs lags no more than either, in any arithmetic
+pub later-least : (Z : Phases) (o : ℕ) (e f : Pair)
+    → (Z .lag o (later Z o e f .phase) ≤ Z .lag o (e .phase)) × (Z .lag o (later Z o e f .phase) ≤ Z .lag o (f .phase))
+later-least Z o e f = go (isLater Z o f e) refl
+  where
+    go : (t : Bool) → isLater Z o f e ≡ t
+        → (Z .lag o ((pick t f e) .phase) ≤ Z .lag o (e .phase)) × (Z .lag o ((pick t f e) .phase) ≤ Z .lag o (f .phase))
+    go true q = (later-lag Z o e f q, omega arith)
+    go false q = (omega arith, not-later-lag Z o e f q)
+
+-- the own phase is later than every other, the phase 0 too: the newest phase may be 0
+pub own-latest : (P o : ℕ) (e f : Pair) → o < P → e .phase < P → (e .phase ≡ o → ⊥) → f .phase ≡ o → isLater (ring P) o f e ≡ true
+unfolding laterBy
+own-latest P o e f ho he ne q =
+    rw (q, lag-self P o, lt-ltb 0 (lagOf P o (e .phase)) (lag-other P o (e .phase) ho he ne))
+
+-- at equal lag the larger clock is later
+pub later-clock : (Z : Phases) (o : ℕ) (e f : Pair) → Z .lag o (f .phase) ≡ Z .lag o (e .phase)
+    → isLater Z o f e ≡ ltb (e .clock) (f .clock)
+unfolding laterBy
+later-clock Z o e f q =
+    rw (q, le-ltb (Z .lag o (e .phase)) (Z .lag o (e .phase)) (omega arith), eq-eqb (Z .lag o (e .phase)) (Z .lag o (e .phase)) refl)

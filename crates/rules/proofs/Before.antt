@@ -21,7 +21,8 @@ use Rattle.tools.proofs.Tests.{and-true-l, and-true-r}
 use Rattle.rules.proofs.Keys.{key, Differ, gap-key, same-key}
 use Rattle.rules.specs.Fits.{phases}
 use Rattle.rules.proofs.Bounded.{NearRow}
-use Rattle.rules.proofs.Causal.{Upto, seen, Causal, leads-lt}
+use Rattle.rules.specs.Vector.{Upto}
+use Rattle.rules.proofs.Causal.{seen, Causal, leads-lt}
 use Rattle.rules.proofs.Good.{Behind, Good}
 
 -- the gap is that of the true phases of x's desk at x and at y

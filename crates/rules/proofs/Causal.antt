@@ -1,7 +1,6 @@
 -- A log's rows know exactly what leads to them, and one more event keeps it so.
 -- Assumes nothing.
 use mathlib.Core.Path.{_≡_, refl, ap, sym, _∙_, subst}
-use mathlib.Core.Bool.{Bool, true, false, _&&_, _||_}
 use mathlib.Core.Option.{some}
 use mathlib.Core.Logic.{_⊎_, inl, inr}
 use Prim.Native.Nat.{ℕ, suc, _-_, _≤_, _<_}
@@ -11,14 +10,11 @@ use Rattle.ring.specs.Phases.{Pair}
 use Rattle.rules.specs.declared.Setup.{Setup}
 use Rattle.rules.specs.Model.{Row, zeros}
 use Rattle.rules.specs.History.{Kind, cause, Log, Link, desk-link, mail-link, Leads, one, more, logged}
+use Rattle.rules.specs.Vector.{Upto, Earlier, Last, Never}
 use Rattle.tools.specs.Tables.{Each}
 use Rattle.tools.proofs.Tables.{put-all, put-same, put-other}
-use Rattle.rules.proofs.Keys.{key, lexi}
-use lib.Dec.{ltb, eqb}
-use borrow.Author.Tests.{ltb-false}
-
-abbrev pub Upto : Log → ℕ → ℕ → Type 0
-Upto h e f = (e ≡ f) ⊎ Leads h e f
+use Rattle.tools.proofs.Tests.{lt-or-le}
+use Rattle.rules.proofs.Keys.{key, key-earlier}
 
 -- the event's own pair, as a number, and what row f knows of the desk of e
 abbrev pub seen : Setup → Log → ℕ → ℕ → ℕ
@@ -212,38 +208,22 @@ module _ (X : Setup) (h : Log) (c : Causal X h) (j : ℕ) (w : Kind) (r : Row) (
             (λ k. rw (put-same (h .row) (h .count) r) (origin-new k));
       }
 
--- Each desk's pairs rise; a row's entry for desk k is the pair of the last event of k that leads to the row's event or is
--- it, and 0, 0 where there is none.
-pub record Last (h : Log) (f k e : ℕ) : Type 0 where
-  pub is : e < h .count
-  pub at : h .desk e ≡ k
-  pub leads : Upto h e f
-  pub pair : h .row e k ≡ h .row f k
-  pub last : (e′ : ℕ) → e′ < h .count → h .desk e′ ≡ k → Upto h e′ f → e′ ≤ e
-
-pub record Never (h : Log) (f k : ℕ) : Type 0 where
-  pub pair : h .row f k ≡ zeros k
-  pub never : (e : ℕ) → e < h .count → h .desk e ≡ k → Upto h e f → ⊥
-
+-- Each desk's pairs rise; a row's entry for desk k is that of the last event of k up to it.
 module _ (X : Setup) (h : Log) (c : Causal X h) where
   upto-le : (e f : ℕ) → f < h .count → Upto h e f → e ≤ f
   upto-le e f b (inl q) = omega arith
   upto-le e f b (inr l) = let z = leads-lt h (c .caused) l b in omega arith
 
-  pub rising : (e f : ℕ) → e < f → f < h .count → h .desk e ≡ h .desk f
-      → (ltb (h .row e (h .desk e) .phase) (h .row f (h .desk e) .phase)
-      || (eqb (h .row e (h .desk e) .phase) (h .row f (h .desk e) .phase) && ltb (h .row e (h .desk e) .clock) (h .row f (h .desk e) .clock))) ≡ true
+  pub rising : (e f : ℕ) → e < f → f < h .count → h .desk e ≡ h .desk f → Earlier (h .row e (h .desk e)) (h .row f (h .desk e))
   rising e f l b q =
       let a : e < h .count = omega arith in
-      lexi (X .clocks) (h .row e (h .desk e) .phase) (h .row e (h .desk e) .clock) (h .row f (h .desk e) .phase) (h .row f (h .desk e) .clock)
-      (c .clocks e a (h .desk e)) (c .clocks f b (h .desk e))
-      ∙ go a (ltb (seen X h e e) (seen X h e f)) refl
+      key-earlier X (h .row e (h .desk e)) (h .row f (h .desk e)) (c .clocks e a (h .desk e)) (c .clocks f b (h .desk e))
+      (go a (lt-or-le (seen X h e e) (seen X h e f)))
     where
-      go : e < h .count → (t : Bool) → ltb (seen X h e e) (seen X h e f) ≡ t → t ≡ true
-      go a true z = refl
-      go a false z =
-          absurd (let y = upto-le f e a (c .complete f e b a
-          (subst (λ d. key X (h .row f d) ≤ key X (h .row e d)) q (ltb-false (seen X h e e) (seen X h e f) z))) in omega arith)
+      go : e < h .count → (seen X h e e < seen X h e f) ⊎ (seen X h e f ≤ seen X h e e) → seen X h e e < seen X h e f
+      go a (inl z) = z
+      go a (inr z) =
+          absurd (let y = upto-le f e a (c .complete f e b a (subst (λ d. key X (h .row f d) ≤ key X (h .row e d)) q z)) in omega arith)
 
   pub entry : (f : ℕ) → f < h .count → (k : ℕ) → Never h f k ⊎ ((e : ℕ) × Last h f k e)
   entry f b k = go (c .origin f b k)

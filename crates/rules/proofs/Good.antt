@@ -21,7 +21,8 @@ use Rattle.tools.proofs.Tables.{put-all, put-both, put-same, put-other, Each-ma
 use Rattle.rules.proofs.Keys.{key, later-key, tick-key, turn-key}
 use Rattle.rules.specs.Fits.{phases}
 use Rattle.rules.proofs.Bounded.{NearRow, Bounded, mail-near, bounded-done, fresh-bounded, no-local, no-send, no-receive, no-keep}
-use Rattle.rules.proofs.Causal.{Upto, Origin, seen, Causal, Fits, old-desk, old-row, causal-next, below}
+use Rattle.rules.specs.Vector.{Upto}
+use Rattle.rules.proofs.Causal.{Origin, seen, Causal, Fits, old-desk, old-row, causal-next, below}
 
 -- event x is behind what is held
 abbrev pub Behind : Log → ℕ → Held → Type 0

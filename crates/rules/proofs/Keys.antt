@@ -1,7 +1,8 @@
 -- A pair as one number, phase times L plus clock: with clocks below L the later pair is the larger number.
 -- Assumes nothing.
-use mathlib.Core.Path.{_≡_, refl, ap, sym}
+use mathlib.Core.Path.{_≡_, refl, ap, sym, _∙_}
 use mathlib.Core.Bool.{Bool, true, false, _&&_, _||_}
+use mathlib.Core.Logic.{inl, inr}
 use Prim.Native.Nat.{ℕ, _+_, _-_, _*_, _≤_, _<_}
 use native.Mathlib.Omega.{arith}
 use native.Mathlib.Nat.{mul-le-mul-right}
@@ -10,7 +11,8 @@ use borrow.Author.Tests.{eqb-true, eqb-false, eq-eqb, ne-eqb, ltb-true, ltb-fals
 use Rattle.ring.specs.Phases.{line, Pair, Gap, laterBy, lagGap, isLater}
 use Rattle.rules.specs.declared.Setup.{Setup}
 use Rattle.rules.specs.Model.{sameBy, turn, tick}
-use Rattle.tools.proofs.Tests.{same-by, eq-by}
+use Rattle.rules.specs.Vector.{Earlier}
+use Rattle.tools.proofs.Tests.{and-true-l, and-true-r, same-by, eq-by}
 
 abbrev pub key : Setup → Pair → ℕ
 key X q = q .phase * X .clocks + q .clock
@@ -83,3 +85,12 @@ tick-key X q = omega arith
 
 pub turn-key : (X : Setup) (q : Pair) → q .clock < X .clocks → key X q < key X (turn line q)
 turn-key X q h = omega arith
+
+pub key-earlier : (X : Setup) (p q : Pair) → p .clock < X .clocks → q .clock < X .clocks → key X p < key X q → Earlier p q
+key-earlier X p q cp cq l =
+    go (ltb (p .phase) (q .phase)) refl
+    (lexi (X .clocks) (p .phase) (p .clock) (q .phase) (q .clock) cp cq ∙ lt-ltb (key X p) (key X q) l)
+  where
+    go : (t : Bool) → ltb (p .phase) (q .phase) ≡ t → (t || (eqb (p .phase) (q .phase) && ltb (p .clock) (q .clock))) ≡ true → Earlier p q
+    go true e w = inl (ltb-true _ _ e)
+    go false e w = inr (eqb-true _ _ (and-true-l _ _ w), ltb-true _ _ (and-true-r (eqb (p .phase) (q .phase)) (ltb (p .clock) (q .clock)) w))

@@ -9,4 +9,7 @@ pub mod Replies
 pub mod Fits
 pub mod History
 pub mod Round
+pub mod Runs
+pub mod Vector
+pub mod Stamps
 pub mod Demand

@@ -1,0 +1,29 @@
+-- The vector rule over a log: what a row tells of each desk.
+-- Assumes nothing.
+--   Upto h e f     the event e is f, or leads to it
+--   Earlier p q    the pair p is earlier than q: a smaller phase, or the same phase and a smaller clock
+--   Last h f k e   e is the last event of desk k that is f or leads to it, and row f holds its pair
+--   Never h f k    no event of desk k is f or leads to it, and row f holds 0, 0 for k
+use mathlib.Core.Path.{_≡_}
+use mathlib.Core.Logic.{_⊎_}
+use Prim.Native.Nat.{ℕ, _≤_, _<_}
+use Rattle.ring.specs.Phases.{Pair}
+use Rattle.rules.specs.Model.{zeros}
+use Rattle.rules.specs.History.{Log, Leads}
+
+abbrev pub Upto : Log → ℕ → ℕ → Type 0
+Upto h e f = (e ≡ f) ⊎ Leads h e f
+
+abbrev pub Earlier : Pair → Pair → Type 0
+Earlier p q = (p .phase < q .phase) ⊎ ((p .phase ≡ q .phase) × (p .clock < q .clock))
+
+pub record Last (h : Log) (f k e : ℕ) : Type 0 where
+  pub is : e < h .count
+  pub at : h .desk e ≡ k
+  pub leads : Upto h e f
+  pub pair : h .row e k ≡ h .row f k
+  pub last : (e′ : ℕ) → e′ < h .count → h .desk e′ ≡ k → Upto h e′ f → e′ ≤ e
+
+pub record Never (h : Log) (f k : ℕ) : Type 0 where
+  pub pair : h .row f k ≡ zeros k
+  pub never : (e : ℕ) → e < h .count → h .desk e ≡ k → Upto h e f → ⊥
