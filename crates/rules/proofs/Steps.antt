@@ -1,10 +1,10 @@
 -- The number of a step is that of its refusal, and a refused step changes nothing.
 -- Assumes nothing.
-use mathlib.Core.Path.{_≡_, refl, _∙_}
+use mathlib.Core.Path.{_≡_, refl, ap, _∙_}
 use Prim.Native.Nat.{ℕ, zero, suc}
 use Rattle.ring.specs.Phases.{Phases}
 use Rattle.rules.specs.declared.Setup.{Setup}
-use Rattle.rules.specs.Model.{Tables, Act, local, reset, keep, drop, discard, show, send, receive, before, compare, write, step, done, why, settle}
+use Rattle.rules.specs.Model.{Tables, Act, local, reset, keep, drop, discard, show, send, receive, before, compare, write, refusal, Result, step, done, why, settle}
 
 module _ (Z : Phases) (X : Setup) (b : Tables) (c : Act) where
   done-zero : (c : Act) → done Z X b c .answer .number ≡ 0
@@ -29,10 +29,15 @@ module _ (Z : Phases) (X : Setup) (b : Tables) (c : Act) where
       go zero = done-zero c
       go (suc n) = refl
 
-  pub step-refused : (step Z X b c .answer .number ≡ 0 → ⊥) → step Z X b c .tables ≡ b
+  -- a refusal is its number only, and the tables as they were
+  pub step-only : (step Z X b c .answer .number ≡ 0 → ⊥) → step Z X b c ≡ record { answer = refusal (step Z X b c .answer .number); tables = b }
   unfolding step
-  step-refused ne = go (why Z X b c) refl
+  step-only ne = go (why Z X b c) refl
     where
-      go : (n : ℕ) → why Z X b c ≡ n → settle n b (done Z X b c) .tables ≡ b
+      go : (n : ℕ) → why Z X b c ≡ n
+          → settle n b (done Z X b c) ≡ record { answer = refusal (settle n b (done Z X b c) .answer .number); tables = b }
       go zero e = absurd (ne (step-number ∙ e))
       go (suc n) e = refl
+
+  pub step-refused : (step Z X b c .answer .number ≡ 0 → ⊥) → step Z X b c .tables ≡ b
+  step-refused ne = ap (λ (r : Result). r .tables) (step-only ne)

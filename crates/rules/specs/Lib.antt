@@ -12,4 +12,5 @@ pub mod Round
 pub mod Runs
 pub mod Vector
 pub mod Stamps
+pub mod Due
 pub mod Demand

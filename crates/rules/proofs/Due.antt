@@ -1,0 +1,217 @@
+-- The answer table of document 01: the number that an act answers is the smallest whose row is due.
+-- Assumes nothing.
+use mathlib.Core.Path.{_≡_, refl, ap, sym, _∙_}
+use mathlib.Core.Bool.{Bool, true, false, not, _&&_, _||_, true≢false, false≢true}
+use mathlib.Core.Option.{Option, none, some}
+use mathlib.Core.Logic.{_⊎_, inl, inr}
+use Prim.Native.Nat.{ℕ, _+_, _*_, _≤_, _<_}
+use native.Mathlib.Omega.{arith}
+use lib.Dec.{ltb, eqb}
+use borrow.Author.Tests.{eqb-true, eqb-false, eq-eqb, ne-eqb, ltb-true, ltb-false, lt-ltb, le-ltb, not-true}
+use Rattle.tools.specs.Tests.{pick, any}
+use Rattle.tools.specs.Reasons.{Holds, Smallest}
+use Rattle.tools.proofs.Reasons.{smallest-swap}
+use Rattle.tools.proofs.Tests.{and-true-l, and-true-r, and-false, any-at, any-true, lowest-none, lowest-full, not-off}
+use Rattle.ring.specs.Phases.{Phases, Gap}
+use Rattle.rules.specs.declared.Setup.{Setup}
+use Rattle.rules.specs.Numbers.{Name, NoDesk, SameDesk, NoPlace, NotYours, NoEvent, PhaseFull, MailFull, ShelfFull, SeatBehind, MailBehind, ShelfBehind, NoRoom, OutOfReach, number}
+use Rattle.rules.specs.Model.{Held, Tables, Act, local, reset, keep, drop, discard, show, send, receive, before, compare, write, step, used, toIn, own, freeMail, freeSlot, lags, near, isOut, gapHeld, reasons}
+use Rattle.rules.specs.Due.{AtDesk, at-local, at-send, at-sent, at-receive, at-reset, at-keep, Ticks, by-local, by-send, by-receive, OfMail, of-receive, of-discard, OfSlot, of-drop, of-before, of-before′, of-compare, of-compare′, of-show, of-write, Asks, asks-before, asks-compare, asks-back, Gone, Beyond, Due, no-desk, same-desk, no-mail, no-slot, not-yours, no-event, phase-full, mail-full, shelf-full, seat-behind, mail-behind, shelf-behind, no-room, out-of-reach, DueNumber}
+use Rattle.rules.proofs.Reasons.{act-number}
+
+-- each test of the list, and what its row says
+at-least : (a n : ℕ) → n ≤ a → not (ltb a n) ≡ true
+at-least a n l = rw (le-ltb a n l)
+
+is-least : (a n : ℕ) → not (ltb a n) ≡ true → n ≤ a
+is-least a n t = ltb-false a n (not-true (ltb a n) t)
+
+either : (t u : Bool) → (t || u) ≡ true → (t ≡ true) ⊎ (u ≡ true)
+either true u e = inl refl
+either false u e = inr e
+
+or-left : (t u : Bool) → t ≡ true → (t || u) ≡ true
+or-left t u e = rw e
+
+or-right : (t u : Bool) → u ≡ true → (t || u) ≡ true
+or-right true u e = refl
+or-right false u e = e
+
+gone-test : (p : ℕ) (o : Option Held) → Gone p o → not (used o && ltb p 32) ≡ true
+gone-test p o (inl l) = rw (le-ltb p 32 l, and-false (used o))
+gone-test p o (inr e) = rw e
+
+is-gone : (p : ℕ) (o : Option Held) → not (used o && ltb p 32) ≡ true → Gone p o
+is-gone p none t = inr refl
+is-gone p (some w) t = inl (is-least p 32 t)
+
+beyond-test : (X : Setup) (d : Gap) → Beyond X (d .up) (d .down) → isOut (near X d) ≡ true
+beyond-test X d (inl l) = rw (le-ltb (d .up) (d .down + X .ahead) l)
+beyond-test X d (inr l) = rw (le-ltb (d .down) (d .up + X .back) l, and-false (ltb (d .up) (d .down + X .ahead)))
+
+is-beyond : (X : Setup) (d : Gap) → isOut (near X d) ≡ true → Beyond X (d .up) (d .down)
+is-beyond X d = go (ltb (d .up) (d .down + X .ahead)) (ltb (d .down) (d .up + X .back)) refl refl
+  where
+    go : (p q : Bool) → ltb (d .up) (d .down + X .ahead) ≡ p → ltb (d .down) (d .up + X .back) ≡ q
+        → isOut (pick (p && q) (some d) none) ≡ true → Beyond X (d .up) (d .down)
+    go true true p q e = absurd (false≢true e)
+    go true false p q e = inr (ltb-false _ _ q)
+    go false q p q′ e = inl (ltb-false _ _ p)
+
+full : (f : ℕ → Option Held) → ((p : ℕ) → p < 32 → used (f p) ≡ true)
+    → not (ltb (Rattle.tools.specs.Tests.lowest 32 (λ p. not (used (f p)))) 32) ≡ true
+full f h = rw (lowest-none 32 (λ p. not (used (f p))) (λ p l. ap not (h p l)))
+
+is-full : (f : ℕ → Option Held) → not (ltb (Rattle.tools.specs.Tests.lowest 32 (λ p. not (used (f p)))) 32) ≡ true
+    → (p : ℕ) → p < 32 → used (f p) ≡ true
+is-full f t p l = not-off (used (f p)) (lowest-full 32 (λ p. not (used (f p))) (is-least _ 32 t) p l)
+
+module _ (Z : Phases) (X : Setup) (b : Tables) where
+  is-behind : (j B : ℕ) (f : ℕ → Option Held) → any 32 (λ p. lags Z b j B (f p)) ≡ true
+      → (p : ℕ) × (w : Held) × (p < 32) × (f p ≡ some w) × (Z .lag (own b j .phase) (w .row j .phase) ≡ B)
+  is-behind j B f t = let s = any-true 32 (λ p. lags Z b j B (f p)) t in go (s .0) (s .1) (f (s .0)) refl (s .2)
+    where
+      go : (p : ℕ) → p < 32 → (o : Option Held) → f p ≡ o → lags Z b j B o ≡ true
+          → (p : ℕ) × (w : Held) × (p < 32) × (f p ≡ some w) × (Z .lag (own b j .phase) (w .row j .phase) ≡ B)
+      go p l none e t = absurd (false≢true t)
+      go p l (some w) e t = (p, w, l, e, eqb-true _ _ t)
+
+  behind : (j B : ℕ) (f : ℕ → Option Held) (p : ℕ) (w : Held) → p < 32 → f p ≡ some w
+      → Z .lag (own b j .phase) (w .row j .phase) ≡ B → any 32 (λ p. lags Z b j B (f p)) ≡ true
+  behind j B f p w l e q =
+      any-at 32 (λ p. lags Z b j B (f p)) p l (ap (lags Z b j B) e ∙ eq-eqb (Z .lag (own b j .phase) (w .row j .phase)) B q)
+
+  abbrev lagAt : ℕ → Held → ℕ
+  lagAt j w = Z .lag (own b j .phase) (w .row j .phase)
+
+  out-test : (s t : ℕ) (e f : Held) → b .shelf s ≡ some e → b .shelf t ≡ some f → Beyond X (lagAt (e .by) e) (lagAt (e .by) f)
+      → isOut (gapHeld Z X b (b .shelf s) (b .shelf t)) ≡ true
+  out-test s t e f p q g = rw (p, q) (beyond-test X (record { up = lagAt (e .by) e; down = lagAt (e .by) f }) g)
+
+  -- a row that is due stands in the list of reasons, by its number
+  listed : {c : Act} {w : Name} → Due Z X b c w → Holds (reasons Z X b c) (number w)
+  unfolding reasons
+  listed (no-desk (at-local {j = j}) l) = inl (refl, at-least j (X .desks) l)
+  listed (no-desk (at-send {j = j} {k = k}) l) = inl (refl, or-left _ _ (at-least j (X .desks) l))
+  listed (no-desk (at-sent {j = j} {k = k}) l) = inl (refl, or-right (not (ltb j (X .desks))) _ (at-least k (X .desks) l))
+  listed (no-desk (at-receive {j = j}) l) = inl (refl, at-least j (X .desks) l)
+  listed (no-desk (at-reset {j = j}) l) = inl (refl, at-least j (X .desks) l)
+  listed (no-desk (at-keep {j = j}) l) = inl (refl, at-least j (X .desks) l)
+  listed (same-desk {j = j}) = inr (inl (refl, eq-eqb j j refl))
+  listed (no-mail (of-receive {p = p}) g) = inr (inl (refl, gone-test p (b .mail p) g))
+  listed (no-mail (of-discard {p = p}) g) = inl (refl, gone-test p (b .mail p) g)
+  listed (no-slot (of-drop {s = s}) g) = inl (refl, gone-test s (b .shelf s) g)
+  listed (no-slot (of-before {s = s}) g) = inl (refl, or-left _ _ (gone-test s (b .shelf s) g))
+  listed (no-slot (of-before′ {s = s} {t = t}) g) = inl (refl, or-right (not (used (b .shelf s) && ltb s 32)) _ (gone-test t (b .shelf t) g))
+  listed (no-slot (of-compare {s = s}) g) = inl (refl, or-left _ _ (gone-test s (b .shelf s) g))
+  listed (no-slot (of-compare′ {s = s} {t = t}) g) = inl (refl, or-right (not (used (b .shelf s) && ltb s 32)) _ (gone-test t (b .shelf t) g))
+  listed (no-slot (of-show {s = s}) g) = inl (refl, gone-test s (b .shelf s) g)
+  listed (no-slot (of-write {s = s}) g) = inl (refl, gone-test s (b .shelf s) g)
+  listed (not-yours {j = j} {p = p} {w = w} e ne) = inr (inr (inl (refl, rw e (ap not (ne-eqb (w .to) j ne)))))
+  listed (no-event e) = inr (inl (refl, ap not e))
+  listed (phase-full (by-local {j = j}) l) = inr (inl (refl, at-least (own b j .clock + 1) (X .clocks) l))
+  listed (phase-full (by-send {j = j}) l) = inr (inr (inl (refl, at-least (own b j .clock + 1) (X .clocks) l)))
+  listed (phase-full (by-receive {j = j}) l) = inr (inr (inr (inl (refl, at-least (own b j .clock + 1) (X .clocks) l))))
+  listed (mail-full h) = inr (inr (inr (inl (refl, full (b .mail) h))))
+  listed (shelf-full h) = inr (inr (inl (refl, full (b .shelf) h)))
+  listed (seat-behind {j = j} {k = k} l ne q) =
+      inr (inl (
+        refl,
+        any-at (X .desks) (λ s. not (eqb s j) && eqb (Z .lag (own b j .phase) (b .seat s .row j .phase)) (X .seatLag)) k l
+            (rw (ne-eqb k j ne) (eq-eqb _ _ q)),
+      ))
+  listed (mail-behind {j = j} {p = p} {w = w} l e q) = inr (inr (inl (refl, behind j (2 * X .seatLag) (b .mail) p w l e q)))
+  listed (shelf-behind {j = j} {s = s} {w = w} l e q) = inr (inr (inr (inl (refl, behind j (X .shelfLag) (b .shelf) s w l e q))))
+  listed (no-room {room = room} l) = inr (inl (refl, lt-ltb room 20 l))
+  listed (out-of-reach (asks-before {s = s} {t = t}) e f g) = inr (inl (refl, out-test s t _ _ e f g))
+  listed (out-of-reach (asks-compare {s = s} {t = t}) e f g) = inr (inl (refl, or-left _ _ (out-test s t _ _ e f g)))
+  listed (out-of-reach (asks-back {s = s} {t = t}) e f g) =
+      inr (inl (refl, or-right (isOut (gapHeld Z X b (b .shelf s) (b .shelf t))) _ (out-test t s _ _ e f g)))
+
+  -- a reason of the list that holds is due, or a smaller one is
+  abbrev Down : Act → ℕ → Type 0
+  Down c k = (i : ℕ) × (i ≤ k) × DueNumber Z X b c i
+
+  due : {c : Act} {k : ℕ} (w : Name) → number w ≡ k → Due Z X b c w → Down c k
+  due {k = k} w q d = (k, omega arith, (w, q, d))
+
+  out : (c : Act) (s t : ℕ) → OfSlot c s → OfSlot c t → Asks c s t → (k : ℕ) → 16 ≡ k
+      → isOut (gapHeld Z X b (b .shelf s) (b .shelf t)) ≡ true → Down c k
+  out c s t os ot a k q h = go (b .shelf s) (b .shelf t) refl refl h
+    where
+      go : (e f : Option Held) → b .shelf s ≡ e → b .shelf t ≡ f → isOut (gapHeld Z X b e f) ≡ true → Down c k
+      go none f p p′ h = (5, omega arith, (NoPlace, refl, no-slot os (inr p)))
+      go (some e) none p p′ h = (5, omega arith, (NoPlace, refl, no-slot ot (inr p′)))
+      go (some e) (some f) p p′ h = due OutOfReach q (out-of-reach a p p′ (is-beyond X _ h))
+
+  no-two : (c : Act) (s t : ℕ) → OfSlot c s → OfSlot c t → (k : ℕ) → 5 ≡ k
+      → (not (used (b .shelf s) && ltb s 32) || not (used (b .shelf t) && ltb t 32)) ≡ true → Down c k
+  no-two c s t os ot k q h = go (either (not (used (b .shelf s) && ltb s 32)) _ h)
+    where
+      go : (not (used (b .shelf s) && ltb s 32) ≡ true) ⊎ (not (used (b .shelf t) && ltb t 32) ≡ true) → Down c k
+      go (inl h) = due NoPlace q (no-slot os (is-gone s (b .shelf s) h))
+      go (inr h) = due NoPlace q (no-slot ot (is-gone t (b .shelf t) h))
+
+  told : (c : Act) (k : ℕ) → Holds (reasons Z X b c) k → Down c k
+  unfolding reasons
+  told (local j) k (inl (q, h)) = due NoDesk q (no-desk at-local (is-least _ _ h))
+  told (local j) k (inr (inl (q, h))) = due PhaseFull q (phase-full by-local (is-least _ _ h))
+  told (local j) k (inr (inr h)) = absurd h
+  told (send j i) k (inl (q, h)) = go (either (not (ltb j (X .desks))) _ h)
+    where
+      go : (not (ltb j (X .desks)) ≡ true) ⊎ (not (ltb i (X .desks)) ≡ true) → Down (send j i) k
+      go (inl h) = due NoDesk q (no-desk at-send (is-least _ _ h))
+      go (inr h) = due NoDesk q (no-desk at-sent (is-least _ _ h))
+  told (send j i) k (inr (inl (q, h))) = due SameDesk q (rw (← (eqb-true j i h)) same-desk)
+  told (send j i) k (inr (inr (inl (q, h)))) = due PhaseFull q (phase-full by-send (is-least _ _ h))
+  told (send j i) k (inr (inr (inr (inl (q, h))))) = due MailFull q (mail-full (is-full (b .mail) h))
+  told (send j i) k (inr (inr (inr (inr h)))) = absurd h
+  told (receive j p) k (inl (q, h)) = due NoDesk q (no-desk at-receive (is-least _ _ h))
+  told (receive j p) k (inr (inl (q, h))) = due NoPlace q (no-mail of-receive (is-gone p (b .mail p) h))
+  told (receive j p) k (inr (inr (inl (q, h)))) = go (b .mail p) refl h
+    where
+      go : (o : Option Held) → b .mail p ≡ o → not (eqb (toIn o) j) ≡ true → Down (receive j p) k
+      go none e h = (5, omega arith, (NoPlace, refl, no-mail of-receive (inr e)))
+      go (some w) e h = due NotYours q (not-yours e (eqb-false (w .to) j (not-true _ h)))
+  told (receive j p) k (inr (inr (inr (inl (q, h))))) = due PhaseFull q (phase-full by-receive (is-least _ _ h))
+  told (receive j p) k (inr (inr (inr (inr h)))) = absurd h
+  told (reset j) k (inl (q, h)) = due NoDesk q (no-desk at-reset (is-least _ _ h))
+  told (reset j) k (inr (inl (q, h))) =
+      let s = any-true (X .desks) _ h in
+      due SeatBehind q (seat-behind (s .1) (eqb-false _ _ (not-true _ (and-true-l _ _ (s .2)))) (eqb-true _ _ (and-true-r (not (eqb (s .0) j)) _ (s .2))))
+  told (reset j) k (inr (inr (inl (q, h)))) =
+      let s = is-behind j (2 * X .seatLag) (b .mail) h in due MailBehind q (mail-behind (s .2) (s .3) (s .4))
+  told (reset j) k (inr (inr (inr (inl (q, h))))) =
+      let s = is-behind j (X .shelfLag) (b .shelf) h in due ShelfBehind q (shelf-behind (s .2) (s .3) (s .4))
+  told (reset j) k (inr (inr (inr (inr h)))) = absurd h
+  told (keep j) k (inl (q, h)) = due NoDesk q (no-desk at-keep (is-least _ _ h))
+  told (keep j) k (inr (inl (q, h))) = due NoEvent q (no-event (not-true _ h))
+  told (keep j) k (inr (inr (inl (q, h)))) = due ShelfFull q (shelf-full (is-full (b .shelf) h))
+  told (keep j) k (inr (inr (inr h))) = absurd h
+  told (drop s) k (inl (q, h)) = due NoPlace q (no-slot of-drop (is-gone s (b .shelf s) h))
+  told (drop s) k (inr h) = absurd h
+  told (discard p) k (inl (q, h)) = due NoPlace q (no-mail of-discard (is-gone p (b .mail p) h))
+  told (discard p) k (inr h) = absurd h
+  told (before s t) k (inl (q, h)) = no-two (before s t) s t of-before of-before′ k q h
+  told (before s t) k (inr (inl (q, h))) = out (before s t) s t of-before of-before′ asks-before k q h
+  told (before s t) k (inr (inr h)) = absurd h
+  told (compare s t) k (inl (q, h)) = no-two (compare s t) s t of-compare of-compare′ k q h
+  told (compare s t) k (inr (inl (q, h))) = go (either (isOut (gapHeld Z X b (b .shelf s) (b .shelf t))) _ h)
+    where
+      go : (isOut (gapHeld Z X b (b .shelf s) (b .shelf t)) ≡ true) ⊎ (isOut (gapHeld Z X b (b .shelf t) (b .shelf s)) ≡ true)
+          → Down (compare s t) k
+      go (inl h) = out (compare s t) s t of-compare of-compare′ asks-compare k q h
+      go (inr h) = out (compare s t) t s of-compare′ of-compare asks-back k q h
+  told (compare s t) k (inr (inr h)) = absurd h
+  told (show s) k (inl (q, h)) = due NoPlace q (no-slot of-show (is-gone s (b .shelf s) h))
+  told (show s) k (inr h) = absurd h
+  told (write s room) k (inl (q, h)) = due NoPlace q (no-slot of-write (is-gone s (b .shelf s) h))
+  told (write s room) k (inr (inl (q, h))) = due NoRoom q (no-room (ltb-true _ _ h))
+  told (write s room) k (inr (inr h)) = absurd h
+
+  back : (c : Act) (k : ℕ) → DueNumber Z X b c k → (i : ℕ) × (i ≤ k) × Holds (reasons Z X b c) i
+  back c k (w, q, d) = (number w, omega arith, listed d)
+
+  -- THE PROMISE: the smallest number whose row is due is given, and none is given without its reason
+  pub table : (c : Act) → Smallest (DueNumber Z X b c) (step Z X b c .answer .number)
+  table c = smallest-swap (Holds (reasons Z X b c)) (DueNumber Z X b c) _ (act-number Z X b c) (told c) (back c)

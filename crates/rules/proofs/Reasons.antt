@@ -1,0 +1,91 @@
+-- REASONS, for every call: a number is answered exactly when its reason holds and no smaller one does, 0 exactly when none
+-- does; a refusal answers its number only, and leaves the book as it was.
+-- Assumes nothing.
+use mathlib.Core.Path.{_≡_, refl, ap, _∙_}
+use mathlib.Core.Bool.{Bool, true, false, _||_}
+use mathlib.Core.Option.{Option}
+use Prim.Native.Nat.{ℕ, zero, suc}
+use native.Mathlib.Omega.{arith}
+use Rattle.tools.specs.Reasons.{first, ascending, Holds, Smallest}
+use Rattle.tools.proofs.Reasons.{first-smallest}
+use Rattle.ring.specs.Phases.{Phases}
+use Rattle.rules.specs.declared.Setup.{Setup}
+use Rattle.rules.specs.Setups.{permits}
+use Rattle.rules.specs.Model.{Tables, Act, local, reset, keep, drop, discard, show, send, receive, before, compare, write, Value, Answer, refusal, accepted, nothing, isOut, reasons, why, done, step, settle}
+use Rattle.rules.specs.Calls.{Book, Call, start, on, Turn, freshBook, settled, turnOf, call}
+use Rattle.rules.specs.Labels.{Label, Neither, gapRead, whyOff, settleOff, beforeOff, compareOff, newestBy, newestOff}
+use Rattle.rules.specs.Due.{reasonsOf, reasonsOff}
+use Rattle.rules.proofs.Steps.{step-number, step-only}
+
+module _ (Z : Phases) (X : Setup) (b : Tables) where
+  rising : (c : Act) → ascending (reasons Z X b c) ≡ true
+  unfolding reasons
+  rising (local j) = refl
+  rising (send j k) = refl
+  rising (receive j p) = refl
+  rising (reset j) = refl
+  rising (keep j) = refl
+  rising (drop s) = refl
+  rising (discard p) = refl
+  rising (before s t) = refl
+  rising (compare s t) = refl
+  rising (show s) = refl
+  rising (write s room) = refl
+
+  pub act-number : (c : Act) → Smallest (Holds (reasons Z X b c)) (step Z X b c .answer .number)
+  act-number c = rw (step-number Z X b c) (first-smallest (reasons Z X b c) (rising c))
+
+module _ (Z : Setup → Phases) (b : Book) where
+  settled-number : (n : ℕ) (v : Value) (u : Book) → settled n b (record { answer = accepted v; book = u }) .answer .number ≡ n
+  settled-number zero v u = refl
+  settled-number (suc n) v u = refl
+
+  -- THE PROMISE, for start and the acts
+  pub number-due : (c : Call) → Smallest (Holds (reasonsOf Z b c)) (call Z b c .answer .number)
+  unfolding call
+  number-due (start X) =
+      rw (settled-number (first (reasonsOf Z b (start X))) nothing (freshBook X))
+      (first-smallest (reasonsOf Z b (start X)) refl)
+  number-due (on c) = act-number (Z (b .setup)) (b .setup) (b .tables) c
+
+  -- A refused call answers its number only, and leaves the book as it was: its setup and its tables.
+  pub refused : (c : Call) → (call Z b c .answer .number ≡ 0 → ⊥)
+      → call Z b c ≡ record { answer = refusal (call Z b c .answer .number); book = b }
+  unfolding call
+  refused (start X) ne = go (first (reasonsOf Z b (start X))) ne
+    where
+      turn : ℕ → Turn
+      turn n = settled n b (record { answer = accepted nothing; book = freshBook X })
+
+      go : (n : ℕ) → (turn n .answer .number ≡ 0 → ⊥) → turn n ≡ record { answer = refusal (turn n .answer .number); book = b }
+      go zero ne = absurd (ne refl)
+      go (suc n) ne = refl
+  refused (on c) ne = ap (turnOf (b .setup)) (step-only (Z (b .setup)) (b .setup) (b .tables) c ne)
+
+-- Off the book, given a setup and two stamp records as they read.
+settle-number : (n : ℕ) (v : Value) → settleOff n v .number ≡ n
+settle-number zero v = refl
+settle-number (suc n) v = refl
+
+module _ (X : Setup) (e f : Option Label) where
+  pub before-due : Smallest (Holds (reasonsOff X e f (isOut (gapRead X e f)))) (beforeOff X e f .number)
+  unfolding beforeOff
+  before-due =
+      rw (settle-number (whyOff X e f (isOut (gapRead X e f))) _)
+      (first-smallest (reasonsOff X e f (isOut (gapRead X e f))) refl)
+
+  -- newest is refused as compare is
+  pub compare-due : Smallest (Holds (reasonsOff X e f (isOut (gapRead X e f) || isOut (gapRead X f e)))) (compareOff X e f .number)
+  unfolding compareOff
+  compare-due =
+      rw (settle-number (whyOff X e f (isOut (gapRead X e f) || isOut (gapRead X f e))) _)
+      (first-smallest (reasonsOff X e f (isOut (gapRead X e f) || isOut (gapRead X f e))) refl)
+
+  -- where compare is refused, newest hands back neither
+  pub newest-refused : (compareOff X e f .number ≡ 0 → ⊥) → newestOff X e f ≡ Neither
+  unfolding compareOff
+  newest-refused = go (whyOff X e f (isOut (gapRead X e f) || isOut (gapRead X f e))) _
+    where
+      go : (n : ℕ) (v : Value) → (settleOff n v .number ≡ 0 → ⊥) → newestBy (settleOff n v .value) ≡ Neither
+      go zero v ne = absurd (ne refl)
+      go (suc n) v ne = refl

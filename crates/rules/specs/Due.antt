@@ -1,0 +1,150 @@
+-- The answer table of document 01, row by row: when a name is due to an act; and the reasons of every call as a list.
+-- Assumes nothing. BadBook is for the bytes, BadLine for the program.
+--   AtDesk c j          the act c names the desk j
+--   Ticks c j           c is local, send or receive at the desk j
+--   OfMail c p          c names the mail place p
+--   OfSlot c s          c names the shelf slot s
+--   Asks c s t          c asks about the stamp in slot s and the one in slot t, in this order
+--   Gone p o            the place p is above 31, or free
+--   Beyond X up down    the difference up minus down lies outside -(m-1)..n-1
+--   Due Z X b c w       the name w is due to the act c
+--   DueNumber Z X b c n   a name of the number n is due
+--   reasonsOf Z b c     the reasons to refuse the call c
+--   reasonsOff X e f out  the reasons to refuse before, compare and newest off the book; out: the question is out of reach
+use mathlib.Core.Path.{_≡_}
+use mathlib.Core.Bool.{Bool, true, false, not, _||_}
+use mathlib.Core.Option.{Option, none, some}
+use mathlib.Core.List.{List, [], _∷_}
+use mathlib.Core.Logic.{_⊎_}
+use Prim.Native.Nat.{ℕ, _+_, _*_, _≤_, _<_}
+use Rattle.tools.specs.Reasons.{Reason}
+use Rattle.ring.specs.Phases.{Phases}
+use Rattle.rules.specs.declared.Setup.{Setup}
+use Rattle.rules.specs.Setups.{permits}
+use Rattle.rules.specs.Numbers.{
+  Name,
+  BadSetup,
+  NoDesk,
+  SameDesk,
+  NoPlace,
+  NotYours,
+  NoEvent,
+  PhaseFull,
+  MailFull,
+  ShelfFull,
+  SeatBehind,
+  MailBehind,
+  ShelfBehind,
+  BadStamp,
+  NoRoom,
+  OutOfReach,
+  number,
+  given,
+}
+use Rattle.rules.specs.Model.{
+  Row,
+  Held,
+  Tables,
+  Act,
+  local,
+  reset,
+  keep,
+  drop,
+  discard,
+  show,
+  send,
+  receive,
+  before,
+  compare,
+  write,
+  used,
+  own,
+  reasons,
+}
+use Rattle.rules.specs.Calls.{Book, Call, start, on}
+use Rattle.rules.specs.Labels.{Label, reads}
+
+pub data AtDesk : Act → ℕ → Type 0 where
+  at-local : {j : ℕ} → AtDesk (local j) j
+  at-send : {j k : ℕ} → AtDesk (send j k) j
+  at-sent : {j k : ℕ} → AtDesk (send j k) k
+  at-receive : {j p : ℕ} → AtDesk (receive j p) j
+  at-reset : {j : ℕ} → AtDesk (reset j) j
+  at-keep : {j : ℕ} → AtDesk (keep j) j
+
+pub data Ticks : Act → ℕ → Type 0 where
+  by-local : {j : ℕ} → Ticks (local j) j
+  by-send : {j k : ℕ} → Ticks (send j k) j
+  by-receive : {j p : ℕ} → Ticks (receive j p) j
+
+pub data OfMail : Act → ℕ → Type 0 where
+  of-receive : {j p : ℕ} → OfMail (receive j p) p
+  of-discard : {p : ℕ} → OfMail (discard p) p
+
+pub data OfSlot : Act → ℕ → Type 0 where
+  of-drop : {s : ℕ} → OfSlot (drop s) s
+  of-before : {s t : ℕ} → OfSlot (before s t) s
+  of-before′ : {s t : ℕ} → OfSlot (before s t) t
+  of-compare : {s t : ℕ} → OfSlot (compare s t) s
+  of-compare′ : {s t : ℕ} → OfSlot (compare s t) t
+  of-show : {s : ℕ} → OfSlot (show s) s
+  of-write : {s room : ℕ} → OfSlot (write s room) s
+
+pub data Asks : Act → ℕ → ℕ → Type 0 where
+  asks-before : {s t : ℕ} → Asks (before s t) s t
+  asks-compare : {s t : ℕ} → Asks (compare s t) s t
+  asks-back : {s t : ℕ} → Asks (compare s t) t s
+
+abbrev pub Gone : ℕ → Option Held → Type 0
+Gone p o = (32 ≤ p) ⊎ (o ≡ none)
+
+abbrev pub Beyond : Setup → ℕ → ℕ → Type 0
+Beyond X up down = (down + X .ahead ≤ up) ⊎ (up + X .back ≤ down)
+
+pub data Due (Z : Phases) (X : Setup) (b : Tables) : Act → Name → Type 0 where
+  -- a desk number is D or more
+  no-desk : {c : Act} {j : ℕ} → AtDesk c j → X .desks ≤ j → Due Z X b c NoDesk
+  -- send to oneself
+  same-desk : {j : ℕ} → Due Z X b (send j j) SameDesk
+  -- place or slot above 31, or free
+  no-mail : {c : Act} {p : ℕ} → OfMail c p → Gone p (b .mail p) → Due Z X b c NoPlace
+  no-slot : {c : Act} {s : ℕ} → OfSlot c s → Gone s (b .shelf s) → Due Z X b c NoPlace
+  -- mail addressed to another desk
+  not-yours : {j p : ℕ} {w : Held} → b .mail p ≡ some w → (w .to ≡ j → ⊥) → Due Z X b (receive j p) NotYours
+  -- keep at a seat not started
+  no-event : {j : ℕ} → b .seat j .started ≡ false → Due Z X b (keep j) NoEvent
+  -- local, send or receive at own clock L-1
+  phase-full : {c : Act} {j : ℕ} → Ticks c j → X .clocks ≤ own b j .clock + 1 → Due Z X b c PhaseFull
+  -- send with no free place
+  mail-full : {j k : ℕ} → ((p : ℕ) → p < 32 → used (b .mail p) ≡ true) → Due Z X b (send j k) MailFull
+  -- keep with no free slot
+  shelf-full : {j : ℕ} → ((s : ℕ) → s < 32 → used (b .shelf s) ≡ true) → Due Z X b (keep j) ShelfFull
+  -- reset at j; the entry for j lags M in the seat of another desk below D
+  seat-behind : {j k : ℕ} → k < X .desks → (k ≡ j → ⊥)
+      → Z .lag (own b j .phase) (b .seat k .row j .phase) ≡ X .seatLag → Due Z X b (reset j) SeatBehind
+  -- reset at j; a waiting row's entry for j lags 2M
+  mail-behind : {j p : ℕ} {w : Held} → p < 32 → b .mail p ≡ some w
+      → Z .lag (own b j .phase) (w .row j .phase) ≡ 2 * X .seatLag → Due Z X b (reset j) MailBehind
+  -- reset at j; a kept row's entry for j lags A
+  shelf-behind : {j s : ℕ} {w : Held} → s < 32 → b .shelf s ≡ some w
+      → Z .lag (own b j .phase) (w .row j .phase) ≡ X .shelfLag → Due Z X b (reset j) ShelfBehind
+  -- write into fewer than 20 bytes
+  no-room : {s room : ℕ} → room < 20 → Due Z X b (write s room) NoRoom
+  -- comparison beyond reach: the difference is lag of e's entry minus lag of f's entry, at the desk of e
+  out-of-reach : {c : Act} {s t : ℕ} {e f : Held} → Asks c s t → b .shelf s ≡ some e → b .shelf t ≡ some f
+      → Beyond X (Z .lag (own b (e .by) .phase) (e .row (e .by) .phase)) (Z .lag (own b (e .by) .phase) (f .row (e .by) .phase))
+      → Due Z X b c OutOfReach
+
+abbrev pub DueNumber : Phases → Setup → Tables → Act → ℕ → Type 0
+DueNumber Z X b c n = (w : Name) × (number w ≡ n) × Due Z X b c w
+
+abbrev pub reasonsOf : (Setup → Phases) → Book → Call → List Reason
+reasonsOf Z b (start X) = given BadSetup (not (permits X)) ∷ []
+reasonsOf Z b (on c) = reasons (Z (b .setup)) (b .setup) (b .tables) c
+
+abbrev pub reasonsOff : Setup → Option Label → Option Label → Bool → List Reason
+reasonsOff X e f out =
+    given BadSetup (not (permits X))
+    ∷ given BadStamp (not (reads e) || not (reads f))
+    ∷ given OutOfReach out
+    ∷ []
