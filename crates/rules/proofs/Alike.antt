@@ -4,12 +4,13 @@
 use mathlib.Core.Path.{_≡_, refl, ap, sym, _∙_}
 use mathlib.Core.Bool.{Bool, true, false}
 use mathlib.Core.List.{List, [], _∷_}
+use Rattle.ring.specs.Phases.{line}
 use Rattle.rules.specs.declared.Setup.{Setup}
 use Rattle.rules.specs.Setups.{permits}
-use Rattle.rules.specs.Model.{nothing, accepted}
+use Rattle.rules.specs.Model.{Act, nothing, accepted, step}
 use Rattle.rules.specs.Calls.{Book, Call, start, on, Turn, freshBook, turnOf, ringOf, lineOf, call}
 use Rattle.rules.specs.History.{State, begin, next, after}
-use Rattle.rules.specs.Round.{roundBook, roundTurn}
+use Rattle.rules.specs.Round.{roundAnswer, roundBook, roundTurn}
 use Rattle.rules.specs.Runs.{run, left, roundRun, numbers}
 use Rattle.rules.proofs.Sim.{step-ring, fresh-round}
 use Rattle.rules.proofs.Runs.{startTurn, Faithful, allowed, faithful-begin, faithful-next, faithful-run, left-line}
@@ -27,6 +28,12 @@ call-alike s w (start X) = go (permits X)
     go false = refl
 call-alike s w (on c) =
     ap (turnOf (s .book .setup)) (step-ring (s .book .setup) (allowed s w) (s .book .tables) (w .good .bounded) c)
+
+-- the answer to an act
+pub act-alike : (s : State) → Faithful s → (c : Act) → call ringOf (roundBook (s .book)) (on c) .answer
+    ≡ roundAnswer (s .book .setup .phases) (step line (s .book .setup) (s .book .tables) c .answer)
+unfolding call
+act-alike s w c = ap (λ (t : Turn). t .answer) (call-alike s w (on c))
 
 -- every call of a run, from any faithful state on
 pub run-alike : (s : State) → Faithful s → (cs : List Call)

@@ -7,6 +7,7 @@
 --   adds X h b c   the history after an accepted act
 --   State          a book of the line with its history
 --   next s c       the state after a call; after s cs, after a list of calls
+--   logAfter X cs  the log of the calls cs, from a fresh book of X on; setupAfter X cs, the setup then
 use mathlib.Core.Path.{_≡_}
 use mathlib.Core.Option.{Option, none, some}
 use mathlib.Core.List.{List, [], _∷_}
@@ -132,3 +133,9 @@ next s c =
 unfoldable pub after : State → List Call → State
 after s [] = s
 after s (c ∷ cs) = after (next s c) cs
+
+abbrev pub logAfter : Setup → List Call → Log
+logAfter X cs = after (begin X) cs .history .log
+
+abbrev pub setupAfter : Setup → List Call → Setup
+setupAfter X cs = after (begin X) cs .book .setup
