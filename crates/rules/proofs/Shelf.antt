@@ -39,7 +39,7 @@ compare-round : (X : Setup) (h : Log) (x y P : ℕ) (a : Answer) → CompareIs X
 compare-round X h x y P a w =
     record { out = w .out; said = λ i i′. let t = w .said i i′ in (t .0, t .1, ap (mapValue (modulo P)) (t .2), t .3) }
 
-both-dec : {A B : Type 0} → Dec A → Dec B → Dec (A × B)
+pub both-dec : {A B : Type 0} → Dec A → Dec B → Dec (A × B)
 both-dec (yes a) (yes b) = yes (a, b)
 both-dec (yes a) (no b) = no (λ p. b (p .1))
 both-dec (no a) d = no (λ p. a (p .0))

@@ -14,3 +14,4 @@ pub mod Vector
 pub mod Stamps
 pub mod Due
 pub mod Demand
+pub mod Cases
