@@ -1,0 +1,2 @@
+-- The laws of a comparison's ways.
+pub mod Ways

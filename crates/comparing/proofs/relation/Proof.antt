@@ -1,0 +1,63 @@
+-- `comparing::relation` meets its contract.
+-- Assumes nothing.
+use mathlib.Core.Path.{_≡_, refl, sym, ap, _∙_}
+use mathlib.Core.Bool.{Bool, true, false, _&&_}
+use lib.Dec.{eqb}
+use borrow.Author.Needs.{needs}
+use Rattle.rules.specs.Model.{Row, isBefore, relation}
+use Rattle.comparing.specs.Ways.{gapOf, Clocked}
+use Rattle.comparing.proofs.Ways.{related, relation-by}
+use Rattle.comparing.proofs.relation.Statement.{statement}
+use Rattle.comparing.proofs.relation.Tie as tie
+
+same-by-requires : tie.Need-same-by-requires
+same-by-requires c κs = search needs
+
+returns : tie.Need-returns
+returns c e f p q =
+    let x = c .before .before .args in
+    relation-by (x .w) (x .j) (x .k) e f p (x .v) true (isBefore (gapOf (x .w)) (x .j) (x .k) e f) (isBefore (gapOf (x .v)) (x .k) (x .j) f e) (ap (λ u. eqb (x .j) (x .k) && u) (sym (c .before .same-by .ensures)) ∙ c .if1 .taken) refl refl
+
+is-before-requires : tie.Need-is-before-requires
+is-before-requires c κs = search needs
+
+is-before-requires-2 : tie.Need-is-before-requires-2
+is-before-requires-2 c κs = search needs
+
+-- both ways are asked
+asked : (c : tie.After-is-before2) (there back : Bool) → c .before .is-before .result ≡ there → c .is-before2 .result ≡ back → (e f : Row)
+    → Clocked (c .before .before .before .before .args .w) (c .before .before .before .before .args .j) e f
+    → Clocked (c .before .before .before .before .args .v) (c .before .before .before .before .args .k) f e
+    → related false there back
+    ≡ relation (gapOf (c .before .before .before .before .args .w)) (gapOf (c .before .before .before .before .args .v))
+    (c .before .before .before .before .args .j) (c .before .before .before .before .args .k) e f
+asked c there back t b e f p q =
+    let x = c .before .before .before .before .args in
+    relation-by (x .w) (x .j) (x .k) e f p (x .v) false there back
+    (ap (λ u. eqb (x .j) (x .k) && u) (sym (c .before .before .before .same-by .ensures)) ∙ c .before .before .if1 .left)
+    (sym t ∙ c .before .is-before .ensures e f p) (sym b ∙ c .is-before2 .ensures f e q)
+
+returns-2 : tie.Need-returns-2
+returns-2 c = asked (c .before .before) true true (c .before .if2 .taken) (c .if3 .taken)
+
+returns-3 : tie.Need-returns-3
+returns-3 c = asked (c .before .before) true false (c .before .if2 .taken) (c .if3 .left)
+
+returns-4 : tie.Need-returns-4
+returns-4 c = asked (c .before .before) false true (c .before .if2 .left) (c .if4 .taken)
+
+returns-5 : tie.Need-returns-5
+returns-5 c = asked (c .before .before) false false (c .before .if2 .left) (c .if4 .left)
+
+pub relation-spec : {M : Type 1} → statement M
+relation-spec =
+    tie.close
+    (tie.spec
+    same-by-requires
+    returns
+    is-before-requires
+    is-before-requires-2
+    returns-2
+    returns-3
+    returns-4
+    returns-5)

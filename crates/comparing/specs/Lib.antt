@@ -1,0 +1,2 @@
+-- The comparison of two stamps over plain numbers.
+pub mod Ways
