@@ -17,7 +17,7 @@ use Rattle.tools.specs.Tables.{put}
 use Rattle.rules.specs.Model.{Row, Seat, Held, Tables, Act, local, reset, keep, drop, discard, show, send, receive, before, compare, write, step, done, why, fresh, zeros, grown, merged, turned, seated, freeMail, freeSlot, rowIn, used, own, tick, turn, settle}
 use Rattle.rules.specs.History.{Kind, cause, Local, Send, Reset, Receive, Log, History, desk-link, one, more, logged, noted, none-yet, adds, kept-if}
 use Rattle.tools.specs.Tables.{Each}
-use Rattle.tools.proofs.Tables.{put-all, put-both, put-same, put-other, Each-map}
+use Rattle.tools.proofs.Tables.{put-all, put-both, put-same, put-other, Each-map, none-some}
 use Rattle.rules.proofs.Keys.{key, later-key, tick-key, turn-key}
 use Rattle.rules.specs.Fits.{phases}
 use Rattle.rules.proofs.Bounded.{NearRow, Bounded, mail-near, bounded-done, fresh-bounded, no-local, no-send, no-receive, no-keep}
@@ -98,9 +98,6 @@ module _ (X : Setup) (ok : Permitted X) (b : Tables) (h : History) (g : Good X b
       go true s = subst (λ (ρ : Row). Origin (h .log) k (ρ k)) (s .2) (g .causal .origin (h .last j) (s .0) k)
       go false s = inl (ap (λ (ρ : Row). ρ k) (s .0))
 
-  some-none : {x : ℕ} → some x ≡ none → ⊥
-  some-none z = let y : _≡_ {A = ℕ} 0 1 = cc in omega arith
-
   -- an event that hears of nothing: r is j's row with another own pair
   plain : (w : Kind) → cause w ≡ none → (j : ℕ) (q : Pair) → key X (own b j) < key X q → q .clock < X .clocks
       → Fits X (h .log) j w (put (b .seat j .row) j q)
@@ -120,7 +117,7 @@ module _ (X : Setup) (ok : Permitted X) (b : Tables) (h : History) (g : Good X b
       go : (e x : ℕ) → e < h .log .count → x < h .log .count → Upto (h .log) e x → (h .log .desk x ≡ j) ⊎ (cause w ≡ some x)
           → seen X (h .log) e e ≤ key X (b .seat j .row (h .log .desk e))
       go e x a c u (inl z) = seat-tells j e x a c u z
-      go e x a c u (inr z) = absurd (some-none (sym z ∙ no-cause))
+      go e x a c u (inr z) = absurd (none-some (sym no-cause ∙ z))
 
   plain-known : (j : ℕ) (q : Pair) (k : ℕ) → (k ≡ j → ⊥) → key X (put (b .seat j .row) j q k) ≤ key X (own b k)
   plain-known j q k ne = rw (put-other (b .seat j .row) j q k ne) (seat-known j k)

@@ -7,7 +7,7 @@ use mathlib.Core.List.{List, [], _∷_, _++_}
 use Prim.Native.Nat.{ℕ, zero, suc, _≤_, _<_}
 use native.Mathlib.Omega.{arith}
 use Rattle.tools.specs.Tables.{put, Each}
-use Rattle.tools.proofs.Tables.{put-same, put-other}
+use Rattle.tools.proofs.Tables.{put-same, put-other, some-is, none-some}
 use Rattle.ring.specs.Phases.{line}
 use Rattle.rules.specs.declared.Setup.{Setup}
 use Rattle.rules.specs.Setups.{permits}
@@ -71,7 +71,7 @@ module _ (s : State) where
       go zero = adds-on c
       go (suc n) = same-log (s .history .log)
 
-  next-setup : (c : Act) → next s (on c) .book .setup ≡ now s
+  pub next-setup : (c : Act) → next s (on c) .book .setup ≡ now s
   unfolding next call
   next-setup c = refl
 
@@ -106,11 +106,13 @@ stamp-stays s (on c ∷ cs) o x e w =
     stamp-stays (next s (on c)) cs o x e
     (rw (next-setup s c) (stamp-onward (s .book .setup) (s .history .log) (next s (on c) .history .log) x e (next-on s c) w))
 
-some-is : {A : Type 0} {a c : A} → some a ≡ some c → a ≡ c
-some-is q = cc
-
-none-some : {A : Type 0} {a : A} → none ≡ some a → ⊥
-none-some q = let z : _≡_ {A = ℕ} 0 1 = cc in omega arith
+-- the setup stays through any calls among which no start is accepted
+pub setup-stays : (s : State) (cs : List Call) → Ongoing cs → after s cs .book .setup ≡ s .book .setup
+unfolding after
+setup-stays s [] o = refl
+setup-stays s (start Y ∷ cs) o =
+    setup-stays (next s (start Y)) cs (o .1) ∙ ap (λ (t : State). t .book .setup) (next-refused s Y (o .0))
+setup-stays s (on c ∷ cs) o = setup-stays (next s (on c)) cs o ∙ next-setup s c
 
 -- of an event that is added to the log
 event-stamp : (X : Setup) (h : Log) (j : ℕ) (k : Kind) (r : Row) (e : Label)

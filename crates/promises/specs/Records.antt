@@ -1,0 +1,43 @@
+-- Stamp records that a run over bytes has given out, and the event of each.
+-- Assumes nothing.
+--   stampFrom s c        the stamp that the act c is answered on the bytes s: by an event, or by show or write of a slot
+--   Recorded s X cs r x  r is the record of a stamp that one of the calls cs was answered, the stamp of the event x; the calls
+--                        begin with an accepted start of X on the bytes s, and no later start is accepted
+--   beforeOf, compareOf, newestOf   before, compare and newest off the book, of two records read under a setup
+use mathlib.Core.Path.{_≡_}
+use mathlib.Core.Option.{Option, some}
+use mathlib.Core.List.{List, _∷_, _++_}
+use Prim.Native.Nat.{ℕ}
+use Rattle.rules.specs.declared.Setup.{Setup}
+use Rattle.rules.specs.Model.{Act, Answer}
+use Rattle.rules.specs.Calls.{Call, start, on}
+use Rattle.rules.specs.Labels.{Label, Which, beforeOff, compareOff, newestOff}
+use Rattle.rules.specs.History.{begin, after, setupAfter}
+use Rattle.rules.specs.Stamps.{slotOf, ownerAt, stampIn, eventOf, Ongoing}
+use Rattle.book.specs.Codec.{decode}
+use Rattle.book.specs.Stamps.{writeStamp, readStamp}
+use Rattle.book.specs.Answers.{answerTo, bookAfter}
+use Rattle.promises.specs.Runs.{bytesAfter}
+
+abbrev pub stampFrom : List ℕ → Act → Option Label
+stampFrom s c = stampIn (ownerAt (decode s .tables) (slotOf c)) (answerTo s (on c) .value)
+
+pub record Recorded (s : List ℕ) (X : Setup) (cs : List Call) (r : List ℕ) (x : ℕ) : Type 0 where
+  pub earlier : List Call
+  pub act : Act
+  pub later : List Call
+  pub order : cs ≡ earlier ++ on act ∷ later
+  pub ongoing : Ongoing later
+  pub stamp : Label
+  pub given : stampFrom (bytesAfter (bookAfter s (start X)) earlier) act ≡ some stamp
+  pub written : writeStamp (setupAfter X cs .desks) stamp ≡ r
+  pub event : eventOf (after (begin X) earlier .history) act ≡ x
+
+abbrev pub beforeOf : Setup → List ℕ → List ℕ → Answer
+beforeOf X r q = beforeOff X (readStamp X r) (readStamp X q)
+
+abbrev pub compareOf : Setup → List ℕ → List ℕ → Answer
+compareOf X r q = compareOff X (readStamp X r) (readStamp X q)
+
+abbrev pub newestOf : Setup → List ℕ → List ℕ → Which
+newestOf X r q = newestOff X (readStamp X r) (readStamp X q)
