@@ -1,0 +1,534 @@
+"""The portal book as bytes, by document 01.
+
+Every call takes the book (bytes of any length) and whole numbers of any size,
+and hands back (number, values, book): the answer number, the values (none when
+refused) and the bytes afterwards (the book it was lent when nothing changes).
+The lent book itself is never written to.
+
+Off the book, the calls take a setup and two stamp records and hand back
+(number, values).
+"""
+
+from collections import namedtuple
+
+(DONE, BAD_BOOK, BAD_SETUP, NO_DESK, SAME_DESK, NO_PLACE, NOT_YOURS, NO_EVENT,
+ PHASE_FULL, MAIL_FULL, SHELF_FULL, SEAT_BEHIND, MAIL_BEHIND, SHELF_BEHIND,
+ BAD_STAMP, NO_ROOM, OUT_OF_REACH, BAD_LINE) = range(18)
+
+BOOK_BYTES = 1456
+RECORD_BYTES = 20
+ROW_BYTES = 16
+SEATS, PLACES, SLOTS = 8, 32, 32
+SEAT_AT, MAIL_AT, SHELF_AT = 16, 176, 816
+
+HEADER_MARK = bytes.fromhex("424B")
+SEAT_MARK = bytes.fromhex("5345")
+MAIL_MARK = bytes.fromhex("4D41")
+SHELF_MARK = bytes.fromhex("5348")
+STAMP_MARK = bytes.fromhex("5354")
+
+NO_ROW = bytes(ROW_BYTES)
+FREE = bytes(RECORD_BYTES - 2)
+
+Setup = namedtuple("Setup", "D P L M A m n")
+Stamp = namedtuple("Stamp", "owner row")
+
+RANGES = ((2, 8), (3, 255), (2, 255), (1, 127), (1, 254), (1, 127), (1, 127))
+
+
+# Setup
+
+def permitted(setup):
+    if not all(low <= number <= high
+               for number, (low, high) in zip(setup, RANGES)):
+        return False
+    D, P, L, M, A, m, n = setup
+    return A >= M and P >= 2 * M + 1 and P >= A + 1 and P >= m + n - 1
+
+
+def setup_of(book):
+    return Setup(*book[2:9])
+
+
+# Where the records lie
+
+def seat_at(desk):
+    return SEAT_AT + RECORD_BYTES * desk
+
+
+def place_at(place):
+    return MAIL_AT + RECORD_BYTES * place
+
+
+def slot_at(slot):
+    return SHELF_AT + RECORD_BYTES * slot
+
+
+def row_at(book, record):
+    return bytes(book[record + 4:record + RECORD_BYTES])
+
+
+def own_entry(desk):
+    """Where a desk's own phase stands in its own seat; its clock is next."""
+    return seat_at(desk) + 4 + 2 * desk
+
+
+def own_phases(book):
+    return [book[own_entry(desk)] for desk in range(SEATS)]
+
+
+# A sound book, clause by clause
+
+def sound(book):
+    return (len(book) == BOOK_BYTES
+            and marks_hold(book)
+            and permitted(setup_of(book))
+            and not any(book[9:SEAT_AT])
+            and seats_sound(book)
+            and mail_sound(book)
+            and shelf_sound(book))
+
+
+def marks_hold(book):
+    return (book[:2] == HEADER_MARK
+            and column_holds(book, SEAT_AT, MAIL_AT, SEAT_MARK)
+            and column_holds(book, MAIL_AT, SHELF_AT, MAIL_MARK)
+            and column_holds(book, SHELF_AT, BOOK_BYTES, SHELF_MARK))
+
+
+def column_holds(book, start, end, mark):
+    count = (end - start) // RECORD_BYTES
+    return (book[start:end:RECORD_BYTES] == mark[:1] * count
+            and book[start + 1:end:RECORD_BYTES] == mark[1:] * count)
+
+
+def row_sound(row, setup, own, limit):
+    """Phases, clocks and filler in range, and no lag above the limit."""
+    P, L = setup.P, setup.L
+    filler = 2 * setup.D
+    for phase, clock, now in zip(row[0:filler:2], row[1:filler:2], own):
+        if phase >= P or clock >= L or (now - phase) % P > limit:
+            return False
+    return row[filler:] == NO_ROW[filler:]
+
+
+def seats_sound(book):
+    setup, own = setup_of(book), own_phases(book)
+    for desk in range(SEATS):
+        at = seat_at(desk)
+        started, row = book[at + 2], row_at(book, at)
+        if started > 1 or book[at + 3] != 0:
+            return False
+        if started == 0 and row != NO_ROW:
+            return False
+        if desk >= setup.D and started == 1:
+            return False
+        if desk < setup.D and not row_sound(row, setup, own, setup.M):
+            return False
+    return True
+
+
+def mail_sound(book):
+    setup, own = setup_of(book), own_phases(book)
+    for place in range(PLACES):
+        at = place_at(place)
+        if book[at + 2] == 0:
+            if book[at + 2:at + RECORD_BYTES] != FREE:
+                return False
+        elif not (used_place_sound(book, at, setup)
+                  and row_sound(row_at(book, at), setup, own, 2 * setup.M)):
+            return False
+    return True
+
+
+def used_place_sound(book, at, setup):
+    sender, addressee = book[at + 2] - 1, book[at + 3] - 1
+    return sender < setup.D and 0 <= addressee < setup.D and sender != addressee
+
+
+def shelf_sound(book):
+    setup, own = setup_of(book), own_phases(book)
+    for slot in range(SLOTS):
+        at = slot_at(slot)
+        if book[at + 2] == 0:
+            if book[at + 2:at + RECORD_BYTES] != FREE:
+                return False
+        elif not (book[at + 2] - 1 < setup.D and book[at + 3] == 0
+                  and row_sound(row_at(book, at), setup, own, setup.A)):
+            return False
+    return True
+
+
+# What the calls ask of a sound book
+
+def started(book, desk):
+    return book[seat_at(desk) + 2] == 1
+
+
+def place_used(book, place):
+    return place < PLACES and book[place_at(place) + 2] != 0
+
+
+def slot_used(book, slot):
+    return slot < SLOTS and book[slot_at(slot) + 2] != 0
+
+
+def lowest_free_place(book):
+    return next((p for p in range(PLACES) if not place_used(book, p)), None)
+
+
+def lowest_free_slot(book):
+    return next((s for s in range(SLOTS) if not slot_used(book, s)), None)
+
+
+def phase_full(book, desk):
+    return book[own_entry(desk) + 1] == setup_of(book).L - 1
+
+
+def lag(book, desk, phase):
+    return (book[own_entry(desk)] - phase) % setup_of(book).P
+
+
+def lag_in(book, record, desk):
+    """The lag of the entry for a desk in the row of a record."""
+    return lag(book, desk, book[record + 4 + 2 * desk])
+
+
+def stamp_of_seat(book, desk):
+    return Stamp(desk, row_at(book, seat_at(desk)))
+
+
+def stamp_of_slot(book, slot):
+    return Stamp(book[slot_at(slot) + 2] - 1, row_at(book, slot_at(slot)))
+
+
+def refused(number, book):
+    return number, (), book
+
+
+# The steps
+
+def tick(after, desk):
+    after[own_entry(desk) + 1] += 1
+    after[seat_at(desk) + 2] = 1
+
+
+def later_pair(book, desk, one, other):
+    """Later is the smaller lag, and at equal lag the larger clock."""
+    return min(one, other, key=lambda pair: (lag(book, desk, pair[0]), -pair[1]))
+
+
+def start(book, *numbers):
+    if len(book) != BOOK_BYTES:
+        return refused(BAD_BOOK, book)
+    if not permitted(numbers):
+        return refused(BAD_SETUP, book)
+    header = HEADER_MARK + bytes(numbers) + bytes(7)
+    return DONE, (), (header + (SEAT_MARK + FREE) * SEATS
+                      + (MAIL_MARK + FREE) * PLACES
+                      + (SHELF_MARK + FREE) * SLOTS)
+
+
+def local(book, desk):
+    if not sound(book):
+        return refused(BAD_BOOK, book)
+    if desk >= setup_of(book).D:
+        return refused(NO_DESK, book)
+    if phase_full(book, desk):
+        return refused(PHASE_FULL, book)
+    after = bytearray(book)
+    tick(after, desk)
+    return DONE, (stamp_of_seat(after, desk),), bytes(after)
+
+
+def send_number(book, desk, to):
+    if not sound(book):
+        return BAD_BOOK
+    if desk >= setup_of(book).D or to >= setup_of(book).D:
+        return NO_DESK
+    if desk == to:
+        return SAME_DESK
+    if phase_full(book, desk):
+        return PHASE_FULL
+    if lowest_free_place(book) is None:
+        return MAIL_FULL
+    return DONE
+
+
+def send(book, desk, to):
+    number = send_number(book, desk, to)
+    if number != DONE:
+        return refused(number, book)
+    place = lowest_free_place(book)
+    after = bytearray(book)
+    tick(after, desk)
+    mail = MAIL_MARK + bytes((desk + 1, to + 1)) + row_at(after, seat_at(desk))
+    after[place_at(place):place_at(place + 1)] = mail
+    return DONE, (place, stamp_of_seat(after, desk)), bytes(after)
+
+
+def receive_number(book, desk, place):
+    if not sound(book):
+        return BAD_BOOK
+    if desk >= setup_of(book).D:
+        return NO_DESK
+    if not place_used(book, place):
+        return NO_PLACE
+    if book[place_at(place) + 3] != desk + 1:
+        return NOT_YOURS
+    if phase_full(book, desk):
+        return PHASE_FULL
+    return DONE
+
+
+def receive(book, desk, place):
+    number = receive_number(book, desk, place)
+    if number != DONE:
+        return refused(number, book)
+    after = bytearray(book)
+    merge(after, book, desk, place)
+    tick(after, desk)
+    free_place(after, place)
+    return DONE, (stamp_of_seat(after, desk),), bytes(after)
+
+
+def merge(after, book, desk, place):
+    """Every desk but the receiver's own gets the later of the two pairs."""
+    for other in range(setup_of(book).D):
+        if other != desk:
+            seat = seat_at(desk) + 4 + 2 * other
+            mail = place_at(place) + 4 + 2 * other
+            after[seat:seat + 2] = later_pair(
+                book, other, book[seat:seat + 2], book[mail:mail + 2])
+
+
+def free_place(after, place):
+    after[place_at(place):place_at(place + 1)] = MAIL_MARK + FREE
+
+
+def reset_number(book, desk):
+    if not sound(book):
+        return BAD_BOOK
+    setup = setup_of(book)
+    if desk >= setup.D:
+        return NO_DESK
+    if any(lag_in(book, seat_at(other), desk) == setup.M
+           for other in range(setup.D) if other != desk):
+        return SEAT_BEHIND
+    if any(lag_in(book, place_at(place), desk) == 2 * setup.M
+           for place in range(PLACES) if place_used(book, place)):
+        return MAIL_BEHIND
+    if any(lag_in(book, slot_at(slot), desk) == setup.A
+           for slot in range(SLOTS) if slot_used(book, slot)):
+        return SHELF_BEHIND
+    return DONE
+
+
+def reset(book, desk):
+    number = reset_number(book, desk)
+    if number != DONE:
+        return refused(number, book)
+    after = bytearray(book)
+    own = own_entry(desk)
+    after[own] = (book[own] + 1) % setup_of(book).P
+    after[own + 1] = 0
+    after[seat_at(desk) + 2] = 1
+    return DONE, (stamp_of_seat(after, desk),), bytes(after)
+
+
+# Shelf and mail
+
+def keep_number(book, desk):
+    if not sound(book):
+        return BAD_BOOK
+    if desk >= setup_of(book).D:
+        return NO_DESK
+    if not started(book, desk):
+        return NO_EVENT
+    if lowest_free_slot(book) is None:
+        return SHELF_FULL
+    return DONE
+
+
+def keep(book, desk):
+    number = keep_number(book, desk)
+    if number != DONE:
+        return refused(number, book)
+    slot = lowest_free_slot(book)
+    after = bytearray(book)
+    kept = SHELF_MARK + bytes((desk + 1, 0)) + row_at(book, seat_at(desk))
+    after[slot_at(slot):slot_at(slot + 1)] = kept
+    return DONE, (slot,), bytes(after)
+
+
+def drop(book, slot):
+    if not sound(book):
+        return refused(BAD_BOOK, book)
+    if not slot_used(book, slot):
+        return refused(NO_PLACE, book)
+    after = bytearray(book)
+    after[slot_at(slot):slot_at(slot + 1)] = SHELF_MARK + FREE
+    return DONE, (), bytes(after)
+
+
+def discard(book, place):
+    if not sound(book):
+        return refused(BAD_BOOK, book)
+    if not place_used(book, place):
+        return refused(NO_PLACE, book)
+    after = bytearray(book)
+    free_place(after, place)
+    return DONE, (), bytes(after)
+
+
+def show(book, slot):
+    if not sound(book):
+        return refused(BAD_BOOK, book)
+    if not slot_used(book, slot):
+        return refused(NO_PLACE, book)
+    return DONE, (row_at(book, slot_at(slot)),), book
+
+
+def write(book, slot, target):
+    """The value is the target's bytes afterwards."""
+    if not sound(book):
+        return refused(BAD_BOOK, book)
+    if not slot_used(book, slot):
+        return refused(NO_PLACE, book)
+    if len(target) < RECORD_BYTES:
+        return refused(NO_ROOM, book)
+    record = record_of(setup_of(book), stamp_of_slot(book, slot))
+    return DONE, (record + bytes(target[RECORD_BYTES:]),), book
+
+
+# Comparing: a difference is a number, or None when it is out of reach
+
+def within_reach(setup, d):
+    return -(setup.m - 1) <= d <= setup.n - 1
+
+
+def difference_on_book(book, e, f):
+    j = e.owner
+    d = lag(book, j, e.row[2 * j]) - lag(book, j, f.row[2 * j])
+    return d if within_reach(setup_of(book), d) else None
+
+
+def difference_off_book(setup, e, f):
+    j = e.owner
+    r = (f.row[2 * j] - e.row[2 * j]) % setup.P
+    if r <= setup.n - 1:
+        return r
+    if setup.P - r <= setup.m - 1:
+        return r - setup.P
+    return None
+
+
+def says_before(e, f, d):
+    """Is f's pair for e's desk strictly later, or e's own pair itself?"""
+    j = e.owner
+    known, own = (d, f.row[2 * j + 1]), (0, e.row[2 * j + 1])
+    return known > own or (known == own and e.owner != f.owner)
+
+
+def relation(e, f, d, back):
+    forth, again = says_before(e, f, d), says_before(f, e, back)
+    if forth and again:
+        return "crossed"
+    if forth:
+        return "before"
+    if again:
+        return "after"
+    j = e.owner
+    if j == f.owner and d == 0 and e.row[2 * j + 1] == f.row[2 * j + 1]:
+        return "same"
+    return "concurrent"
+
+
+def answer_before(e, f, d):
+    if d is None:
+        return OUT_OF_REACH, ()
+    return DONE, (says_before(e, f, d),)
+
+
+def answer_compare(e, f, d, back):
+    if d is None or back is None:
+        return OUT_OF_REACH, ()
+    return DONE, (relation(e, f, d, back),)
+
+
+def slots_number(book, first, second):
+    if not sound(book):
+        return BAD_BOOK
+    if not (slot_used(book, first) and slot_used(book, second)):
+        return NO_PLACE
+    return DONE
+
+
+def before(book, first, second):
+    number = slots_number(book, first, second)
+    if number != DONE:
+        return refused(number, book)
+    e, f = stamp_of_slot(book, first), stamp_of_slot(book, second)
+    return (*answer_before(e, f, difference_on_book(book, e, f)), book)
+
+
+def compare(book, first, second):
+    number = slots_number(book, first, second)
+    if number != DONE:
+        return refused(number, book)
+    e, f = stamp_of_slot(book, first), stamp_of_slot(book, second)
+    return (*answer_compare(e, f, difference_on_book(book, e, f),
+                            difference_on_book(book, f, e)), book)
+
+
+# Stamp records, and the calls off the book
+
+def record_of(setup, stamp):
+    return STAMP_MARK + bytes((stamp.owner, setup.D)) + stamp.row
+
+
+def read_stamp(setup, record):
+    """A record is read into a stamp, or refused by None."""
+    if len(record) != RECORD_BYTES or record[:2] != STAMP_MARK:
+        return None
+    owner, D, row = record[2], record[3], bytes(record[4:])
+    filler = 2 * setup.D
+    if owner >= setup.D or D != setup.D or any(row[filler:]):
+        return None
+    if max(row[0:filler:2]) >= setup.P or max(row[1:filler:2]) >= setup.L:
+        return None
+    return Stamp(owner, row)
+
+
+def read_both(setup, first, second):
+    """The number, the setup and both stamps."""
+    if not permitted(setup):
+        return BAD_SETUP, None, None, None
+    setup = Setup(*setup)
+    e, f = read_stamp(setup, first), read_stamp(setup, second)
+    if e is None or f is None:
+        return BAD_STAMP, None, None, None
+    return DONE, setup, e, f
+
+
+def label_before(setup, first, second):
+    number, setup, e, f = read_both(setup, first, second)
+    if number != DONE:
+        return number, ()
+    return answer_before(e, f, difference_off_book(setup, e, f))
+
+
+def label_compare(setup, first, second):
+    number, setup, e, f = read_both(setup, first, second)
+    if number != DONE:
+        return number, ()
+    return answer_compare(e, f, difference_off_book(setup, e, f),
+                          difference_off_book(setup, f, e))
+
+
+def label_newest(setup, first, second):
+    """1 for the first record, 2 for the second, 0 for the empty part."""
+    number, values = label_compare(setup, first, second)
+    if number != DONE:
+        return number, ()
+    return DONE, ({"after": 1, "same": 1, "before": 2}.get(values[0], 0),)

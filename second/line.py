@@ -1,0 +1,221 @@
+"""The same calls by another route: phases that never come round.
+
+Each event knows the set of all events that lead to it (and itself). A row is
+read off that set: for each desk the pair of its last event there, 0.0 if none.
+No pair is ever merged, no lag is ever taken modulo P. Phases come round only
+where they are printed or laid out as bytes.
+"""
+
+PLACES = SLOTS = 32
+
+
+def permitted(D, P, L, M, A, m, n):
+    if D not in range(2, 9) or P not in range(3, 256) or L not in range(2, 256):
+        return False
+    if M not in range(1, 128) or m not in range(1, 128) or n not in range(1, 128):
+        return False
+    return A in range(M, P) and A < 255 and 2 * M < P and m + n - 2 < P
+
+
+class Event:
+    def __init__(self, desks, desk, turn, pair, leading):
+        self.desk = desk
+        self.turn = turn
+        self.phase, self.clock = pair
+        self.past = frozenset(leading | {self})
+        self.pairs = last_pairs(desks, self.past)
+
+
+def last_pairs(desks, past):
+    """The pair of each desk's last event in a set of events."""
+    last = [None] * desks
+    for event in past:
+        known = last[event.desk]
+        if known is None or event.turn > known.turn:
+            last[event.desk] = event
+    return [(event.phase, event.clock) if event else (0, 0) for event in last]
+
+
+def first_free(room):
+    return room.index(None) if None in room else None
+
+
+def used(room, number):
+    return number < len(room) and room[number] is not None
+
+
+class Run:
+    """All calls since one accepted start."""
+
+    def __init__(self, *setup):
+        self.setup = setup
+        self.D, self.P, self.L, self.M, self.A, self.m, self.n = setup
+        self.events = []
+        self.last = [None] * self.D
+        self.mail = [None] * PLACES
+        self.shelf = [None] * SLOTS
+
+    # What a desk has seen
+
+    def pairs(self, desk):
+        event = self.last[desk]
+        return event.pairs if event else [(0, 0)] * self.D
+
+    def own(self, desk):
+        return self.pairs(desk)[desk]
+
+    def full(self, desk):
+        return self.own(desk)[1] == self.L - 1
+
+    def behind(self, desk, pairs):
+        """How many true phases a row is behind a desk."""
+        return self.own(desk)[0] - pairs[desk][0]
+
+    # Events
+
+    def happen(self, desk, pair, mail=None):
+        before = self.last[desk]
+        leading = before.past if before else frozenset()
+        if mail:
+            leading = leading | mail.past
+        turn = before.turn + 1 if before else 0
+        event = Event(self.D, desk, turn, pair, leading)
+        self.events.append(event)
+        self.last[desk] = event
+        return event
+
+    def tick(self, desk, mail=None):
+        phase, clock = self.own(desk)
+        return self.happen(desk, (phase, clock + 1), mail)
+
+    def local(self, desk):
+        if desk >= self.D:
+            return 3, ()
+        if self.full(desk):
+            return 8, ()
+        return 0, (self.tick(desk),)
+
+    def send(self, desk, to):
+        if max(desk, to) >= self.D:
+            return 3, ()
+        if desk == to:
+            return 4, ()
+        if self.full(desk):
+            return 8, ()
+        place = first_free(self.mail)
+        if place is None:
+            return 9, ()
+        event = self.tick(desk)
+        self.mail[place] = (event, to)
+        return 0, (place, event)
+
+    def receive(self, desk, place):
+        if desk >= self.D:
+            return 3, ()
+        if not used(self.mail, place):
+            return 5, ()
+        sent, to = self.mail[place]
+        if to != desk:
+            return 6, ()
+        if self.full(desk):
+            return 8, ()
+        self.mail[place] = None
+        return 0, (self.tick(desk, sent),)
+
+    def reset(self, desk):
+        if desk >= self.D:
+            return 3, ()
+        seats = [self.pairs(other) for other in range(self.D)]
+        if any(self.behind(desk, seat) >= self.M for seat in seats):
+            return 11, ()
+        waiting = [mail[0].pairs for mail in self.mail if mail]
+        if any(self.behind(desk, row) >= 2 * self.M for row in waiting):
+            return 12, ()
+        kept = [event.pairs for event in self.shelf if event]
+        if any(self.behind(desk, row) >= self.A for row in kept):
+            return 13, ()
+        return 0, (self.happen(desk, (self.own(desk)[0] + 1, 0)),)
+
+    # Shelf and mail
+
+    def keep(self, desk):
+        if desk >= self.D:
+            return 3, ()
+        if self.last[desk] is None:
+            return 7, ()
+        slot = first_free(self.shelf)
+        if slot is None:
+            return 10, ()
+        self.shelf[slot] = self.last[desk]
+        return 0, (slot,)
+
+    def drop(self, slot):
+        return self.free(self.shelf, slot)
+
+    def discard(self, place):
+        return self.free(self.mail, place)
+
+    def free(self, room, number):
+        if not used(room, number):
+            return 5, ()
+        room[number] = None
+        return 0, ()
+
+    # Comparing, by chains
+
+    def within_reach(self, e, f):
+        d = f.pairs[e.desk][0] - e.phase
+        return -self.m < d < self.n
+
+    def leads(self, e, f):
+        """A chain leads from e to f, and they are two events."""
+        return e is not f and e in f.past
+
+    def before_events(self, e, f):
+        if not self.within_reach(e, f):
+            return 16, ()
+        return 0, (self.leads(e, f),)
+
+    def compare_events(self, e, f):
+        if not (self.within_reach(e, f) and self.within_reach(f, e)):
+            return 16, ()
+        if e is f:
+            return 0, ("same",)
+        if self.leads(e, f):
+            return 0, ("before",)
+        return 0, ("after" if self.leads(f, e) else "concurrent",)
+
+    def before(self, first, second):
+        if not (used(self.shelf, first) and used(self.shelf, second)):
+            return 5, ()
+        return self.before_events(self.shelf[first], self.shelf[second])
+
+    def compare(self, first, second):
+        if not (used(self.shelf, first) and used(self.shelf, second)):
+            return 5, ()
+        return self.compare_events(self.shelf[first], self.shelf[second])
+
+    # The bytes this run should have
+
+    def row(self, pairs):
+        row = [number for phase, clock in pairs for number in (phase % self.P, clock)]
+        return bytes(row).ljust(16, b"\0")
+
+    def label(self, event):
+        return b"ST" + bytes((event.desk, self.D)) + self.row(event.pairs)
+
+    def book(self):
+        parts = [b"BK", bytes(self.setup), bytes(7)]
+        for event in self.last + [None] * (8 - self.D):
+            parts += [b"SE", b"\1\0" + self.row(event.pairs) if event else bytes(18)]
+        for mail in self.mail:
+            parts += [b"MA", self.mail_bytes(*mail) if mail else bytes(18)]
+        for event in self.shelf:
+            parts += [b"SH", self.slot_bytes(event) if event else bytes(18)]
+        return b"".join(parts)
+
+    def mail_bytes(self, event, to):
+        return bytes((event.desk + 1, to + 1)) + self.row(event.pairs)
+
+    def slot_bytes(self, event):
+        return bytes((event.desk + 1, 0)) + self.row(event.pairs)

@@ -1,0 +1,438 @@
+"""The C interface held against the second opinion, on books no listing reaches.
+
+    python3 second/raw.py LIBRARY                     a few thousand calls
+    python3 second/raw.py LIBRARY --calls 200000 --seed 7
+
+Sound books made at random (unreachable ones too), bytes damaged at every
+offset, wrong lengths and odd numbers. The answer and every byte of every lent
+buffer, and of the bytes on both sides of it, must be alike. The first
+difference is printed and ends with 1.
+"""
+
+import argparse
+import collections
+import ctypes
+import itertools
+import os
+import random
+import sys
+
+sys.path.insert(0, os.path.dirname(os.path.dirname(os.path.abspath(__file__))))
+
+from second import book, seeds
+
+# How many numbers each call takes, and the bytes its value buffers need.
+BOOK_CALLS = {
+    "start": (7, ()), "local": (1, (20,)), "send": (2, (20, 1)),
+    "receive": (2, (20,)), "reset": (1, (20,)), "keep": (1, (1,)),
+    "drop": (1, ()), "discard": (1, ()), "before": (2, (1,)),
+    "compare": (2, (1,)), "show": (1, (16,)), "write": (1, (20,)),
+}
+LABEL_CALLS = ("label_before", "label_compare", "label_newest")
+NEEDS = {name: needs for name, (_, needs) in BOOK_CALLS.items()}
+NEEDS.update((name, (1,)) for name in LABEL_CALLS)
+
+RELATIONS = ("before", "after", "same", "concurrent", "crossed")
+WRONG_LENGTHS = (0, 1, 1455, 1457)
+WRONG_LABEL_LENGTHS = (0, 1, 2, 19, 21, 40)
+GUARD = 24
+DEFAULT_CALLS = 6000
+SOUND_BOOKS = 600
+
+
+class Lent:
+    """A buffer lent to a call, between bytes that nobody was lent."""
+
+    def __init__(self, rng, content):
+        self.length = len(content)
+        self.memory = bytearray(rng.randbytes(GUARD) + content + rng.randbytes(GUARD))
+
+    def content(self):
+        return bytes(self.memory[GUARD:GUARD + self.length])
+
+    def address(self):
+        return ctypes.addressof(ctypes.c_char.from_buffer(self.memory, GUARD))
+
+    def with_content(self, content):
+        """All the memory, were its first bytes these."""
+        return self.memory[:GUARD] + content + self.memory[GUARD + len(content):]
+
+
+class Library:
+    """The functions of gulambitok.h, by a handle that holds them."""
+
+    def __init__(self, handle):
+        self.functions = {name: getattr(handle, "gulambitok_" + name) for name in NEEDS}
+        for name, function in self.functions.items():
+            function.restype = ctypes.c_uint8
+            function.argtypes = argument_types(name)
+
+    def call(self, name, arguments):
+        flat = []
+        for argument in arguments:
+            flat += ((argument.address(), argument.length)
+                     if isinstance(argument, Lent) else (argument,))
+        return self.functions[name](*flat)
+
+
+def argument_types(name):
+    number, lent = [ctypes.c_size_t], [ctypes.c_void_p, ctypes.c_size_t]
+    values = lent * len(NEEDS[name])
+    if name in LABEL_CALLS:
+        return number * 7 + lent * 2 + values
+    return lent + number * BOOK_CALLS[name][0] + values
+
+
+# What the second opinion answers
+
+def answer_of(name, arguments):
+    """The number, the book afterwards and the values in the header's order."""
+    numbers = [argument for argument in arguments if not isinstance(argument, Lent)]
+    lent = [argument.content() for argument in arguments if isinstance(argument, Lent)]
+    if name in LABEL_CALLS:
+        number, values = getattr(book, name)(numbers, *lent[:2])
+        return number, None, values
+    if name == "write":
+        numbers.append(lent[1])
+    number, values, after = getattr(book, name)(lent[0], *numbers)
+    return number, after, values[::-1]
+
+
+def encode(value, after):
+    if isinstance(value, book.Stamp):
+        return book.record_of(book.setup_of(after), value)
+    if isinstance(value, bytes):
+        return value
+    if isinstance(value, str):
+        return bytes((RELATIONS.index(value) + 1,))
+    return bytes((value,))
+
+
+def expected(name, arguments):
+    """The number, and the memory of every lent buffer afterwards."""
+    number, after, values = answer_of(name, arguments)
+    lent = [argument for argument in arguments if isinstance(argument, Lent)]
+    outs = lent[len(lent) - len(NEEDS[name]):]
+    short = any(out.length < need for out, need in zip(outs, NEEDS[name]))
+    if number in (book.DONE, book.OUT_OF_REACH) and short:
+        number = book.NO_ROOM
+    memories = {id(buffer): bytes(buffer.memory) for buffer in lent}
+    if number == book.DONE:
+        if after is not None:
+            memories[id(lent[0])] = bytes(lent[0].with_content(after))
+        for out, value in zip(outs, values):
+            memories[id(out)] = bytes(out.with_content(encode(value, after)))
+    return number, [memories[id(buffer)] for buffer in lent]
+
+
+# Books made at random
+
+def any_setup(rng):
+    if rng.random() < 0.5:
+        return book.Setup(*seeds.good_setup(rng))
+    P = rng.choice((3, 4, 5, 128, 254, 255, rng.randint(3, 255)))
+    M = rng.randint(1, (P - 1) // 2)
+    m = rng.randint(1, min(127, P))
+    n = rng.randint(1, min(127, P + 1 - m))
+    L = rng.choice((2, 3, 4, 255, rng.randint(2, 255)))
+    return book.Setup(rng.randint(2, 8), P, L, M, rng.randint(M, P - 1), m, n)
+
+
+def some(rng, limit):
+    """A number up to a limit, mostly at one of its ends."""
+    if rng.random() < 0.6:
+        return rng.choice((0, limit, max(0, limit - 1)))
+    return rng.randint(0, limit)
+
+
+def random_row(rng, setup, own, limit):
+    row = bytearray(16)
+    high = limit if rng.random() < 0.3 else max(0, limit - 1)
+    for desk in range(setup.D):
+        row[2 * desk] = (own[desk] - some(rng, high)) % setup.P
+        row[2 * desk + 1] = some(rng, setup.L - 1)
+    return bytes(row)
+
+
+def random_seats(rng, setup):
+    """Which seats have started, and each desk's own phase."""
+    started = [rng.random() < 0.7 for _ in range(setup.D)]
+    if rng.random() < 0.6:
+        started = [True] * setup.D
+    highest = setup.P - 1 if all(started) else setup.M
+    return started, [rng.randint(0, highest) if begun else 0 for begun in started]
+
+
+def random_seat(rng, setup, own, desk):
+    row = bytearray(random_row(rng, setup, own, setup.M))
+    row[2 * desk] = own[desk]
+    return b"\1\0" + row
+
+
+def random_mail(rng, setup, own):
+    sender, addressee = rng.sample(range(1, setup.D + 1), 2)
+    return bytes((sender, addressee)) + random_row(rng, setup, own, 2 * setup.M)
+
+
+def random_slot(rng, setup, own):
+    owner = rng.randint(1, setup.D)
+    return bytes((owner, 0)) + random_row(rng, setup, own, setup.A)
+
+
+def random_room(rng, mark, make):
+    """32 records: none, few, half, all or all but one of them used."""
+    share = rng.choice((0, 0.1, 0.5, 1, 1))
+    records = [make() if rng.random() < share else book.FREE for _ in range(32)]
+    if rng.random() < 0.3:
+        records[rng.randrange(32)] = book.FREE
+    if rng.random() < 0.3:
+        records[rng.randrange(32)] = records[rng.randrange(32)]
+    return b"".join(mark + record for record in records)
+
+
+def sound_book(rng):
+    setup = any_setup(rng)
+    started, own = random_seats(rng, setup)
+    started += [False] * (8 - setup.D)
+    seats = [random_seat(rng, setup, own, desk) if begun else book.FREE
+             for desk, begun in enumerate(started)]
+    made = (book.HEADER_MARK + bytes(setup) + bytes(7)
+            + b"".join(book.SEAT_MARK + seat for seat in seats)
+            + random_room(rng, book.MAIL_MARK, lambda: random_mail(rng, setup, own))
+            + random_room(rng, book.SHELF_MARK, lambda: random_slot(rng, setup, own)))
+    if not book.sound(made):
+        raise AssertionError("a sound book was meant")
+    return made
+
+
+def damaged_byte(rng, content, offset):
+    """One byte made another, often by little."""
+    byte = content[offset]
+    others = ((byte + 1) % 256, (byte - 1) % 256, byte ^ 1 << rng.randrange(8),
+              0, 255, rng.randrange(256))
+    other = rng.choice([another for another in others if another != byte])
+    return content[:offset] + bytes((other,)) + content[offset + 1:]
+
+
+# Numbers and buffers
+
+def odd_numbers(D):
+    return (0, max(0, D - 1), D, 31, 32, 255, 256, 2**32, 2**64 - 1)
+
+
+def some_number(rng, content):
+    D = content[2] if len(content) > 2 else 8
+    if rng.random() < 0.15:
+        return rng.choice(odd_numbers(D))
+    if rng.random() < 0.6:
+        return rng.randrange(max(1, D))
+    return rng.randrange(33)
+
+
+def some_numbers(rng, name, content):
+    if name == "start":
+        return list(any_setup(rng))
+    return [some_number(rng, content) for _ in range(BOOK_CALLS[name][0])]
+
+
+def value_buffers(rng, name):
+    """Room enough mostly, more than enough often, too little sometimes."""
+    short = rng.random() < 0.1
+    return [Lent(rng, rng.randbytes(rng.randrange(need) if short
+                                    else need + rng.choice((0, 0, 1, 9))))
+            for need in NEEDS[name]]
+
+
+def fitting(rng, name, given):
+    """A call on a lent book, with numbers mostly sensible."""
+    numbers = some_numbers(rng, name, given.content())
+    return name, [given, *numbers, *value_buffers(rng, name)]
+
+
+def some_call(rng):
+    return rng.choice(tuple(BOOK_CALLS))
+
+
+# The trials: names and arguments
+
+def trials(rng):
+    """One pass after another, each with everything in it."""
+    while True:
+        yield from odd_number_trials(rng)
+        yield from odd_setup_trials(rng)
+        yield from length_trials(rng)
+        yield from offset_trials(rng)
+        yield from label_trials(rng)
+        yield from noise_trials(rng)
+        for _ in range(SOUND_BOOKS):
+            yield from sound_trials(rng)
+
+
+def odd_number_trials(rng):
+    for name, (count, _) in BOOK_CALLS.items():
+        if name != "start":
+            content = sound_book(rng)
+            for numbers in itertools.product(odd_numbers(content[2]), repeat=count):
+                yield name, [Lent(rng, content), *numbers, *value_buffers(rng, name)]
+
+
+def odd_setup_trials(rng):
+    for at in range(7):
+        for odd in odd_numbers(8):
+            setup = list(any_setup(rng))
+            setup[at] = odd
+            yield "start", [Lent(rng, sound_book(rng)), *setup]
+            name = rng.choice(LABEL_CALLS)
+            yield name, [*setup, *label_pair(rng), *value_buffers(rng, name)]
+
+
+def length_trials(rng):
+    for length in WRONG_LENGTHS:
+        for name in BOOK_CALLS:
+            content = (sound_book(rng) + b"\0")[:length]
+            yield fitting(rng, name, Lent(rng, content))
+
+
+def offset_trials(rng):
+    for offset in range(book.BOOK_BYTES):
+        content = damaged_byte(rng, sound_book(rng), offset)
+        yield fitting(rng, some_call(rng), Lent(rng, content))
+
+
+def noise_trials(rng):
+    for name in BOOK_CALLS:
+        yield fitting(rng, name, Lent(rng, bytes(book.BOOK_BYTES)))
+        yield fitting(rng, name, Lent(rng, rng.randbytes(book.BOOK_BYTES)))
+
+
+def sound_trials(rng):
+    """Some calls one after another on one book, wherever it came from."""
+    given = Lent(rng, sound_book(rng))
+    for _ in range(4):
+        name = rng.choice(tuple(name for name in BOOK_CALLS if name != "start"))
+        yield fitting(rng, name, given)
+    for name in ("receive", "before", "compare", "reset"):
+        yield name, [given, *aimed(rng, name, given.content()), *value_buffers(rng, name)]
+
+
+def aimed(rng, name, content):
+    """Numbers that pass the first refusals, where the book has such."""
+    if name == "reset":
+        return [rng.randrange(content[2])]
+    if name == "receive":
+        used = [p for p in range(32) if book.place_used(content, p)] or [0]
+        place = rng.choice(used)
+        return [max(0, content[book.place_at(place) + 3] - 1), place]
+    used = [s for s in range(32) if book.slot_used(content, s)] or [0]
+    return [rng.choice(used), rng.choice(used)]
+
+
+# Labels
+
+def random_label(rng, setup, phases):
+    """A stamp whose phases are near the given ones."""
+    row = bytearray(random_row(rng, setup, phases, min(3, setup.P - 1)))
+    if rng.random() < 0.3:
+        row = bytearray(random_row(rng, setup, phases, setup.P - 1))
+    return book.record_of(setup, book.Stamp(rng.randrange(setup.D), bytes(row)))
+
+
+def two_labels(rng, setup):
+    phases = [rng.randrange(setup.P) for _ in range(setup.D)]
+    first = random_label(rng, setup, phases)
+    return first, first if rng.random() < 0.1 else random_label(rng, setup, phases)
+
+
+def label_pair(rng):
+    return [Lent(rng, label) for label in two_labels(rng, any_setup(rng))]
+
+
+def label_trials(rng):
+    for name in LABEL_CALLS:
+        for _ in range(200):
+            yield label_trial(rng, name, lambda label: label)
+        for offset in range(book.RECORD_BYTES):
+            yield label_trial(rng, name, lambda label: damaged_byte(rng, label, offset))
+        for length in WRONG_LABEL_LENGTHS:
+            yield label_trial(rng, name, lambda label: (label + label)[:length])
+
+
+def label_trial(rng, name, spoil):
+    setup = any_setup(rng)
+    labels = list(two_labels(rng, setup))
+    at = rng.randrange(2)
+    labels[at] = spoil(labels[at])
+    lent = [Lent(rng, label) for label in labels]
+    return name, [*setup, *lent, *value_buffers(rng, name)]
+
+
+# The comparison
+
+def difference(name, arguments, library):
+    """What differs, or None; and the number with the value asked for."""
+    lent = [argument for argument in arguments if isinstance(argument, Lent)]
+    before = [argument.content().hex() if isinstance(argument, Lent) else argument
+              for argument in arguments]
+    number, memories = expected(name, arguments)
+    given = library.call(name, arguments)
+    wrong = [(number, given)] if number != given else []
+    for at, (buffer, memory) in enumerate(zip(lent, memories)):
+        wrong += differing_bytes(at, memory, buffer.memory)
+    seen = number, memories[-1][GUARD] if number == book.DONE and NEEDS[name] == (1,) else None
+    return (before, wrong) if wrong else None, seen
+
+
+def differing_bytes(at, wanted, given):
+    return [f"buffer {at}, byte {offset - GUARD}: second {one}, library {other}"
+            for offset, (one, other) in enumerate(zip(wanted, given)) if one != other][:8]
+
+
+def report(trial, seed, name, found):
+    before, wrong = found
+    print(f"call {trial} of seed {seed}: {name} differs")
+    for argument in before:
+        print(f"  given   {argument}")
+    for one in wrong:
+        text = f"second answers {one[0]}, library {one[1]}" if isinstance(one, tuple) else one
+        print(f"  {text}")
+
+
+def compare(library, calls, seed):
+    """What was seen of each call; None when something differs."""
+    seen = collections.Counter()
+    rng = random.Random(seed)
+    for trial, (name, arguments) in enumerate(itertools.islice(trials(rng), calls), 1):
+        found, answer = difference(name, arguments, library)
+        if found:
+            report(trial, seed, name, found)
+            return None
+        seen[(name, *answer)] += 1
+    return seen
+
+
+def summary(seen):
+    for name in NEEDS:
+        numbers = collections.Counter()
+        for (call, number, _), count in seen.items():
+            if call == name:
+                numbers[number] += count
+        print(f"  {name}: " + ", ".join(f"{n:03} {c}" for n, c in sorted(numbers.items())))
+
+
+def main():
+    parser = argparse.ArgumentParser(description="the C interface against the second opinion")
+    parser.add_argument("library")
+    parser.add_argument("--calls", type=int, default=DEFAULT_CALLS)
+    parser.add_argument("--seed", type=int, default=1)
+    options = parser.parse_args()
+    library = Library(ctypes.CDLL(os.path.abspath(options.library)))
+    seen = compare(library, options.calls, options.seed)
+    if seen is None:
+        return 1
+    print(f"{sum(seen.values())} calls agreed; how often each number was answered:")
+    summary(seen)
+    return 0
+
+
+if __name__ == "__main__":
+    sys.exit(main())

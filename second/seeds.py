@@ -1,0 +1,376 @@
+"""Listings made from a seed: good runs and damaged lines mixed.
+
+    python3 second/seeds.py SEED > listing
+
+The writer follows the run it writes (line.py), so that it knows which calls
+will be accepted, which rooms are full and what stands in the way of a reset.
+"""
+
+import os
+import random
+import sys
+
+sys.path.insert(0, os.path.dirname(os.path.dirname(os.path.abspath(__file__))))
+
+from second import line
+from second.listing import parse
+
+# Each at some edge of the ranges or of the four inequalities.
+EDGE_SETUPS = (
+    (2, 3, 2, 1, 1, 1, 1), (2, 3, 3, 1, 2, 2, 2), (3, 5, 4, 2, 4, 2, 2),
+    (8, 3, 255, 1, 1, 1, 3), (8, 3, 20, 1, 2, 3, 1), (4, 3, 12, 1, 2, 2, 2),
+    (2, 5, 2, 2, 2, 3, 3), (2, 7, 2, 3, 6, 4, 4), (3, 4, 9, 1, 3, 2, 3),
+    (2, 255, 255, 127, 254, 127, 127), (8, 255, 255, 127, 254, 127, 127),
+    (2, 255, 2, 127, 127, 1, 127), (3, 255, 5, 127, 127, 127, 1),
+    (5, 9, 30, 4, 4, 5, 5), (6, 3, 30, 1, 1, 1, 1), (7, 6, 40, 2, 5, 3, 4),
+)
+
+ODD_NUMBERS = (0, 1, 2, 3, 7, 8, 9, 30, 31, 32, 33, 99, 127, 128, 200, 254,
+               255, 256, 257, 511, 512, 998, 999)
+
+WORDS = (b"start", b"local", b"send", b"receive", b"reset", b"keep", b"drop",
+         b"discard", b"before", b"compare", b"show", b"write", b"newest",
+         b"Local", b"SEND", b"stars", b"loca", b"locals", b"")
+
+ODD_BYTES = b"\0\t\r\v\f \x1f\x7f\x80\xa0\xb2\xc2\xff.,-+_0129azAZ/:"
+
+
+def text_of(verb, *numbers):
+    return " ".join([verb, *(f"{number:03}" for number in numbers)]).encode()
+
+
+def good_setup(rng):
+    if rng.random() < 0.3:
+        return rng.choice(EDGE_SETUPS)
+    M = rng.choice((1, 1, 1, 2, 2, 3, rng.randint(1, 30)))
+    A = M + rng.choice((0, 0, 1, 2, rng.randint(0, 60)))
+    P = max(2 * M + 1, A + 1) + rng.choice((0, 0, 0, 1, rng.randint(0, 20)))
+    m = rng.randint(1, min(127, P))
+    n = rng.randint(1, min(127, P + 1 - m))
+    L = rng.choice((2, 4, 6, 8, 10, 15, 20, 40, rng.randint(2, 255)))
+    return rng.choice((2, 2, 3, 3, 4, 5, 6, 7, 8)), P, L, M, A, m, n
+
+
+def odd_setup(rng):
+    """A good setup with one number moved, often just over an edge."""
+    D, P, L, M, A, m, n = setup = list(good_setup(rng))
+    if rng.random() < 0.4:
+        return rng.choice(((D, P, L, M, M - 1, m, n), (D, 2 * M, L, M, M, 1, 1),
+                           (D, A, L, M, A, 1, 1), (D, m + n - 2, L, 1, 1, m, n),
+                           (D, m + n - 1, L, 1, 1, m, n), (D, P, L, M, P, m, n)))
+    moved = rng.randrange(7)
+    setup[moved] = rng.choice((0, 1, 255, 256, 999, setup[moved] - 1,
+                               setup[moved] + 1, rng.randint(0, 300)))
+    return setup
+
+
+# Damaged lines
+
+def damaged(rng, text):
+    return rng.choice(DAMAGES)(rng, text)
+
+
+def long_line(rng, text):
+    """Lines about the length of 64, some beginning like a good one."""
+    length = rng.choice((63, 64, 64, 65, 65, 66, 128, 129, 130, 200))
+    filler = rng.choice((b" ", b"0", b" 000", b"x", b"\0", b"\xff"))
+    return (text + filler * length)[:length]
+
+
+def other_byte(rng, text):
+    at = rng.randrange(len(text) + 1)
+    return text[:at] + bytes((rng.choice(ODD_BYTES),)) + text[at + 1:]
+
+
+def more_byte(rng, text):
+    at = rng.randrange(len(text) + 1)
+    return text[:at] + bytes((rng.choice(ODD_BYTES),)) + text[at:]
+
+
+def less_byte(rng, text):
+    at = rng.randrange(len(text) + 1)
+    return text[:at] + text[at + 1:]
+
+
+def other_width(rng, text):
+    verb, *numbers = text.split(b" ")
+    if numbers:
+        at = rng.randrange(len(numbers))
+        numbers[at] = rng.choice((b"7", b"07", b"0007", b"", b"-01", b"+01",
+                                  b"0x1", b"1.0", b" 01", b"01 ", b"00a"))
+    return b" ".join([verb, *numbers])
+
+
+def other_count(rng, text):
+    fields = text.split(b" ")
+    if rng.random() < 0.5:
+        return b" ".join(fields[:-1])
+    return b" ".join(fields + [b"000"] * rng.randint(1, 8))
+
+
+def other_word(rng, text):
+    return b" ".join([rng.choice(WORDS)] + text.split(b" ")[1:])
+
+
+def random_bytes(rng, text):
+    length = rng.choice((1, 2, 5, 9, 33, 64, 65, 90))
+    return bytes(rng.randrange(256) for _ in range(length)).replace(b"\n", b"\r")
+
+
+DAMAGES = (
+    long_line, other_byte, more_byte, less_byte, other_width, other_count,
+    other_word, random_bytes,
+    lambda rng, text: b"",
+    lambda rng, text: text.upper(),
+    lambda rng, text: text.capitalize(),
+    lambda rng, text: text + b"\r",
+    lambda rng, text: text + b"\0",
+    lambda rng, text: text + b"#",
+    lambda rng, text: b" " + text,
+    lambda rng, text: text + b" ",
+    lambda rng, text: text.replace(b" ", b"  ", 1),
+    lambda rng, text: text.replace(b" ", b"\t"),
+    lambda rng, text: text.replace(b" ", b"", 1),
+)
+
+
+class Writer:
+    """A listing in the making, and the run it makes."""
+
+    def __init__(self, rng):
+        self.rng = rng
+        self.lines = []
+        self.run = None
+
+    def say(self, verb, *numbers):
+        """Write a line; hand back the number and values the run answers."""
+        self.lines.append(text_of(verb, *numbers))
+        if verb == "start":
+            return self.start(numbers), ()
+        return getattr(self.run, verb)(*numbers) if self.run else (1, ())
+
+    def start(self, numbers):
+        if not line.permitted(*numbers):
+            return 2
+        self.run = line.Run(*numbers)
+        return 0
+
+    def data(self):
+        ended = b"\n" if self.rng.random() < 0.7 else b""
+        return b"\n".join(self.lines) + ended
+
+    # Numbers that mostly make sense
+
+    def desk(self):
+        if self.rng.random() < 0.03:
+            return self.rng.choice(ODD_NUMBERS)
+        return self.rng.randrange(self.run.D)
+
+    def used(self, room):
+        places = [place for place, held in enumerate(room) if held]
+        if not places or self.rng.random() < 0.05:
+            return self.rng.choice(ODD_NUMBERS)
+        return self.rng.choice(places)
+
+    def place(self):
+        return self.used(self.run.mail)
+
+    def slot(self):
+        return self.used(self.run.shelf)
+
+    def two_slots(self):
+        """Mostly two different slots."""
+        first, second = self.slot(), self.slot()
+        return first, second if second != first else self.slot()
+
+    # Scenes
+
+    def wander(self):
+        for _ in range(self.rng.randint(5, 40)):
+            self.move()
+
+    def move(self):
+        verb = self.rng.choice((
+            "local", "send", "send", "send", "receive", "receive", "receive",
+            "reset", "reset", "keep", "keep", "drop", "discard", "before",
+            "compare", "compare"))
+        if verb == "receive":
+            self.take()
+        elif verb == "send":
+            self.say(verb, self.desk(), self.desk())
+        elif verb in ("before", "compare"):
+            self.say(verb, *self.two_slots())
+        elif verb == "drop":
+            self.say(verb, self.slot())
+        elif verb == "discard":
+            self.say(verb, self.place())
+        else:
+            self.say(verb, self.desk())
+
+    def take(self):
+        """Receive some mail, mostly at the desk it is addressed to."""
+        place = self.place()
+        desk = self.desk()
+        if place < 32 and self.run.mail[place] and self.rng.random() < 0.9:
+            desk = self.run.mail[place][1]
+        self.say("receive", desk, place)
+
+    def tell(self, desk, to):
+        """Send and receive; a full phase or full mail is made room in."""
+        number, values = self.say("send", desk, to)
+        if number == 8:
+            self.say("reset", desk)
+            number, values = self.say("send", desk, to)
+        if number == 9:
+            self.say("discard", self.rng.randrange(32))
+        if number == 0 and self.say("receive", to, values[0])[0] == 8:
+            self.say("reset", to)
+            self.say("receive", to, values[0])
+
+    def turn(self, desk):
+        """Reset a desk, and clear away what stands in its way."""
+        number, _ = self.say("reset", desk)
+        if number == 11:
+            rows = [self.run.behind(desk, self.run.pairs(k)) for k in range(self.run.D)]
+            self.tell(desk, rows.index(max(rows)))
+        elif number == 12:
+            self.clear("discard", [mail and mail[0] for mail in self.run.mail],
+                       desk, 2 * self.run.M)
+        elif number == 13:
+            self.clear("drop", self.run.shelf, desk, self.run.A)
+
+    def clear(self, verb, room, desk, limit):
+        for place, event in list(enumerate(room)):
+            if event and self.run.behind(desk, event.pairs) >= limit:
+                self.say(verb, place)
+
+    def sprint(self):
+        """One desk turns its ring, others follow when they must."""
+        desk = self.rng.randrange(self.run.D)
+        for _ in range(self.rng.choice((5, 10, 20, 3 * self.run.P))):
+            if len(self.lines) > 260:
+                return
+            self.turn(desk)
+            self.now_and_then()
+
+    def gossip(self):
+        """News goes round the desks, then every desk turns."""
+        for desk in list(range(self.run.D)) * self.rng.randint(1, 2):
+            self.tell(desk, (desk + 1) % self.run.D)
+        for desk in range(self.run.D):
+            self.turn(desk)
+            self.now_and_then()
+
+    def now_and_then(self):
+        if self.rng.random() < 0.15:
+            self.say("send", self.desk(), self.desk())
+        if self.rng.random() < 0.3:
+            self.say("keep", self.desk())
+        if self.rng.random() < 0.2:
+            self.say("compare", *self.two_slots())
+        if self.rng.random() < 0.2:
+            self.say("before", *self.two_slots())
+
+    def rounds(self):
+        for _ in range(self.rng.randint(3, 12)):
+            if len(self.lines) < 240:
+                self.gossip()
+
+    def fill_mail(self):
+        for _ in range(self.rng.randint(33, 60)):
+            number, _ = self.say("send", self.desk(), self.desk())
+            if number == 8 and self.rng.random() < 0.5:
+                self.turn(self.rng.randrange(self.run.D))
+            if number == 9 and self.rng.random() < 0.5:
+                return self.fill_phase()
+
+    def fill_phase(self):
+        """Mail and phase full at once, where L lets it come to that."""
+        desk = self.rng.randrange(self.run.D)
+        while not self.run.full(desk) and self.rng.random() < 0.95:
+            self.say("local", desk)
+        self.say("send", desk, (desk + 1) % self.run.D)
+
+    def fill_shelf(self):
+        busy = self.desk()
+        for _ in range(self.rng.randint(33, 45)):
+            number, _ = self.say("keep", busy)
+            if number == 10:
+                break
+            if number or self.rng.random() < 0.3:
+                busy = self.desk()
+                self.say("local", busy)
+        for desk in range(self.run.D):
+            self.say("keep", desk)
+
+    def ask(self):
+        for _ in range(self.rng.randint(4, 20)):
+            self.say(self.rng.choice(("before", "compare")), *self.two_slots())
+
+    def odd_numbers(self):
+        odd = lambda: self.rng.choice(ODD_NUMBERS)
+        for _ in range(self.rng.randint(2, 8)):
+            verb = self.rng.choice(("local", "reset", "keep", "drop", "discard",
+                                    "send", "receive", "before", "compare"))
+            pair = verb in ("send", "receive", "before", "compare")
+            numbers = (odd(), odd()) if pair else (odd(),)
+            self.say(verb, *(numbers[:1] * len(numbers) if self.rng.random() < 0.2
+                             else numbers))
+
+    def bad_lines(self):
+        for _ in range(self.rng.randint(3, 12)):
+            text = self.rng.choice(self.lines)
+            self.write_damaged(damaged(self.rng, text))
+
+    def write_damaged(self, text):
+        """Damage may leave a good line: then the run follows it."""
+        parsed = parse(text)
+        if parsed:
+            self.say(parsed[0], *parsed[1])
+        else:
+            self.lines.append(text)
+
+    def bad_start(self):
+        for _ in range(self.rng.randint(1, 5)):
+            self.say("start", *odd_setup(self.rng))
+
+    def new_start(self):
+        self.say("start", *good_setup(self.rng))
+
+
+SCENES = ((Writer.wander, 8), (Writer.sprint, 4), (Writer.rounds, 5),
+          (Writer.fill_mail, 2), (Writer.fill_shelf, 1), (Writer.ask, 3),
+          (Writer.odd_numbers, 2), (Writer.bad_lines, 9), (Writer.bad_start, 2),
+          (Writer.new_start, 1))
+
+# Input that no run is needed for: ends, lengths and bytes.
+SHORT_LISTINGS = (
+    b"", b"\n", b"\n\n", b"x", b"\0", b"\r\n", b"\n" * 70000,
+    b"start 002 003 003 001 001 001 001", b"start 002 003 003 001 001 001 001\r\n",
+    b"start 256 003 003 001 001 001 001\nlocal 000\n",
+    *(b"x" * length for length in (63, 64, 65, 66)),
+    *(b"start 003 005 004 002 004 002 002\n" + b" " * length + b"local 000\nlocal 000"
+      for length in (54, 55, 56, 57, 119, 120, 247, 256, 65527, 65536)),
+    *(b"start 003 005 004 002 004 002 002\nlocal 000" + b"x" * length + b"\nlocal 000"
+      for length in (55, 56, 247, 256, 65527, 65536)),
+)
+
+
+def listing(seed):
+    rng = random.Random(seed)
+    writer = Writer(rng)
+    if rng.random() < 0.2:
+        writer.odd_numbers()
+        writer.bad_start()
+    writer.new_start()
+    scenes, weights = zip(*SCENES)
+    favourite = rng.choice((Writer.rounds, Writer.rounds, Writer.sprint, Writer.wander))
+    wanted = rng.randint(100, 250)
+    while len(writer.lines) < wanted:
+        scene = favourite if rng.random() < 0.3 else rng.choices(scenes, weights)[0]
+        scene(writer)
+    return writer.data()
+
+
+if __name__ == "__main__":
+    sys.stdout.buffer.write(listing(int(sys.argv[1])))

@@ -1,0 +1,570 @@
+"""The stored listing and its expected output.
+
+    python3 second/stored.py stdin  > crates/desks/stdin
+    python3 second/stored.py stdout > crates/desks/stdout
+
+No line can give 014 (BadStamp) or 015 (NoRoom): no line makes a call that
+reads a record or writes one. "crossed" is reached by no line either: kept
+stamps in a book brought along from start never cross. Case 4 and case 10 are
+about records, so lines say only the stamp of case 4 and, of case 10, the same
+differences on the book.
+"""
+
+import os
+import sys
+
+sys.path.insert(0, os.path.dirname(os.path.dirname(os.path.abspath(__file__))))
+
+from second import book, listing, seeds
+
+EXAMPLE = b"""\
+start 002 003 003 001 001 001 001
+local 000
+keep 000
+send 000 001
+receive 001 000
+keep 001
+compare 000 001
+reset 000
+reset 000
+"""
+
+EXAMPLE_ANSWERS = b"""\
+000
+000 000 000.001 000.000
+000 000
+000 000 000 000.002 000.000
+000 001 000.002 000.001
+000 001
+000 before
+000 000 001.000 000.000
+011
+"""
+
+X = (3, 5, 4, 2, 4, 2, 2)
+
+NO_LINE_GIVES = (book.BAD_STAMP, book.NO_ROOM)
+
+RELATIONS = ("before", "after", "same", "concurrent")
+
+
+class Writer(seeds.Writer):
+    """Writes lines of fixed calls, and holds on to every run."""
+
+    def __init__(self):
+        super().__init__(None)
+        self.runs = []
+
+    def start(self, numbers):
+        number = super().start(numbers)
+        if number == book.DONE:
+            self.runs.append(self.run)
+        return number
+
+    def raw(self, *texts):
+        self.lines += texts
+
+    def all_two_ways(self, slots):
+        for first in slots:
+            for second in slots:
+                self.say("before", first, second)
+                self.say("compare", first, second)
+
+
+# Before any start
+
+def no_book_yet(w):
+    for verb, count in listing.VERBS.items():
+        if verb != b"start":
+            w.say(verb.decode(), *[0] * count)
+            w.say(verb.decode(), *[999] * count)
+    w.raw(b"", b"local 7")
+    w.say("start", 3, 4, 4, 2, 4, 2, 2)
+    w.say("local", 0)
+
+
+def example(w):
+    for text in listing.lines_of(EXAMPLE):
+        verb, numbers = listing.parse(text)
+        w.say(verb, *numbers)
+
+
+# The cases, by document 01's numbers
+
+def case_1_and_2(w):
+    w.say("start", *X)
+    w.say("local", 2)
+    w.say("start", 3, 4, 4, 2, 4, 2, 2)
+    w.say("start", 3, 5, 4, 2, 1, 2, 2)
+    w.say("local", 2)
+
+
+def case_3_to_8(w):
+    w.say("start", *X)
+    w.say("local", 0)
+    w.say("keep", 2)
+    w.say("send", 0, 0)
+    w.say("send", 3, 3)
+    for _ in range(3):
+        w.say("local", 0)
+    w.say("start", *X)
+    for _ in range(3):
+        w.say("reset", 0)
+
+
+def turn_to(w, phase):
+    """Desk 0 turns to a true phase; desks 1 and 2 follow each turn."""
+    while w.run.own(0)[0] < phase:
+        w.say("reset", 0)
+        w.tell(0, 1)
+        w.tell(0, 2)
+        for desk in (1, 2):
+            if w.run.full(desk):
+                w.say("reset", desk)
+                w.tell(desk, 3 - desk)
+                w.tell(desk, 0)
+
+
+def case_9(w):
+    """Phase 0 is later than 4 once desk 0 is there, not before."""
+    w.say("start", 3, 5, 40, 2, 4, 2, 2)
+    turn_to(w, 4)
+    w.say("send", 0, 1)
+    w.say("reset", 0)
+    w.say("send", 0, 2)
+    w.say("receive", 2, 1)
+    w.say("send", 2, 1)
+    w.say("receive", 1, 1)
+    w.say("receive", 1, 0)
+    w.say("keep", 1)
+    w.say("start", *X)
+    w.say("send", 0, 1)
+    w.say("reset", 0)
+    w.say("send", 0, 1)
+    w.say("receive", 1, 1)
+    w.say("receive", 1, 0)
+
+
+def case_10(w):
+    """On the book under X, differences of 0, 1, -1 and 2, -2."""
+    w.say("start", *X)
+    w.say("local", 0)
+    w.say("keep", 0)
+    w.say("local", 1)
+    w.say("keep", 1)
+    w.say("reset", 0)
+    w.say("send", 0, 1)
+    w.say("keep", 0)
+    w.say("receive", 1, 0)
+    w.say("keep", 1)
+    w.say("reset", 0)
+    w.say("keep", 0)
+    w.all_two_ways(range(5))
+
+
+def case_11_and_12(w):
+    w.say("start", *X)
+    w.say("local", 0)
+    w.say("keep", 0)
+    w.say("keep", 0)
+    w.all_two_ways((0, 1))
+    w.say("send", 0, 1)
+    w.say("receive", 2, 0)
+    w.say("receive", 1, 0)
+    w.say("receive", 1, 0)
+
+
+def case_13(w):
+    for resets in (1, 2):
+        w.say("start", *X)
+        w.say("local", 0)
+        w.say("keep", 0)
+        for _ in range(resets):
+            w.say("reset", 0)
+        w.say("keep", 0)
+        w.all_two_ways((0, 1))
+
+
+# Setups on both sides of each edge
+
+def setups(w):
+    for setup in ((2, 3, 2, 1, 1, 1, 1), (8, 255, 255, 127, 254, 127, 127)):
+        for at in range(7):
+            for number in (0, *book.RANGES[at], book.RANGES[at][0] - 1,
+                           book.RANGES[at][1] + 1, 255, 256, 999):
+                w.say("start", *setup[:at], number, *setup[at + 1:])
+    for setup in ((4, 11, 9, 5, 6, 2, 2), (4, 10, 9, 5, 6, 2, 2),
+                  (4, 11, 9, 2, 10, 2, 2), (4, 11, 9, 2, 11, 2, 2),
+                  (4, 11, 9, 2, 2, 2, 2), (4, 11, 9, 3, 2, 2, 2),
+                  (4, 11, 9, 2, 2, 6, 6), (4, 11, 9, 2, 2, 6, 7),
+                  (4, 11, 9, 2, 2, 11, 1), (4, 11, 9, 2, 2, 12, 1)):
+        w.say("start", *setup)
+        w.say("local", 3)
+
+
+# Numbers that are not there, and reasons that meet
+
+def odd_numbers(w):
+    w.say("start", *X)
+    w.say("send", 0, 1)
+    w.say("keep", 0)
+    for odd in (1, 2, 3, 8, 31, 32, 255, 256, 257, 999):
+        for verb in ("local", "reset", "keep", "drop", "discard"):
+            w.say(verb, odd)
+        for verb in ("send", "receive", "before", "compare"):
+            w.say(verb, 0, odd)
+            w.say(verb, odd, 0)
+            w.say(verb, odd, odd)
+
+
+def reasons_that_meet(w):
+    """The smallest number is given."""
+    w.say("start", 3, 3, 33, 1, 2, 1, 1)
+    for _ in range(32):
+        w.say("send", 0, 2)
+    for _ in range(32):
+        w.say("keep", 0)
+    for call in (("send", 0, 3), ("send", 0, 0), ("send", 0, 1), ("send", 1, 0),
+                 ("receive", 3, 32), ("receive", 0, 32), ("receive", 0, 0),
+                 ("local", 0), ("keep", 3), ("keep", 1), ("keep", 0)):
+        w.say(*call)
+    w.say("discard", 0)
+    for _ in range(2):
+        w.say("reset", 0)
+        w.say("reset", 0)
+        w.tell(0, 1)
+        w.tell(0, 2)
+    w.say("reset", 0)
+    for place in range(1, 32):
+        w.say("discard", place)
+    w.say("reset", 0)
+    for slot in range(32):
+        w.say("drop", slot)
+    w.say("reset", 0)
+
+
+# Text
+
+def bad_shapes(w):
+    w.say("start", *X)
+    w.say("local", 0)
+    for verb, count in listing.VERBS.items():
+        good = seeds.text_of(verb.decode(), *[1] * count)
+        w.raw(*shapes_of(good))
+    w.raw(b"", b" ", b"  ", b"\t", b"\r", b"\0", b"\xff", b"000", b"000 local",
+          b"local:000", b"local 000 local 000", b"local000", b"show 000",
+          b"write 000", b"newest 000 000", b"LOCAL 000", b"Local 000",
+          b"local OOO", b"local 0.0", b"local -01", b"local +01", b"local 0x1",
+          b"local 1e1", b"local 00\xb9", b"loca\xecl 000", b"local\0000",
+          b"\xef\xbb\xbflocal 000", b"local 000#", b"local 0 00", b"# local")
+    w.say("local", 0)
+
+
+def shapes_of(good):
+    """One good line in every bad shape."""
+    return (good.upper(), good.capitalize(), b" " + good, good + b" ",
+            good.replace(b" ", b"  ", 1), good.replace(b" ", b"\t"),
+            good.replace(b" ", b"", 1), good.replace(b" ", b"\xa0"),
+            good + b"\r", good + b"\0", good + b"\t", good + b" 001", good + b"1",
+            good[:-1], good[:-2], good[:-3], good[:-4], good[1:],
+            good.replace(b"001", b"1"), good.replace(b"001", b"01"),
+            good.replace(b"001", b"0001"), good.replace(b"001", b"00a"),
+            good.replace(b"001", b"/01"), good.replace(b"001", b"0:1"),
+            good.split(b" ")[0], good.split(b" ")[0] + b" ", b"x" + good)
+
+
+def long_lines(w):
+    w.say("start", *X)
+    for length in (62, 63, 64, 65, 66, 127, 128, 129, 130, 200, 256, 265, 1000):
+        w.raw(b"local 000".ljust(length), b"local 000".rjust(length), b"x" * length,
+              b"local 000".ljust(length, b"\0"), b"\xff" * length)
+        w.say("reset", 0)
+        w.say("reset", 1)
+        w.tell(0, 1)
+        w.tell(0, 2)
+        w.tell(1, 0)
+        w.tell(1, 2)
+    w.raw((b"start" + b" 002" * 15)[:65], (b"start" + b" 002" * 15)[:64],
+          b"send" + b" 000" * 15)
+
+
+# Rooms
+
+def full_mail(w):
+    w.say("start", 3, 5, 255, 2, 4, 2, 2)
+    for place in range(33):
+        w.say("send", place % 3, (place + 1) % 3)
+    w.say("discard", 31)
+    w.say("discard", 5)
+    w.say("discard", 5)
+    w.say("send", 0, 2)
+    w.say("receive", 2, 5)
+    w.say("receive", 2, 5)
+    w.say("receive", 1, 0)
+    w.say("receive", 0, 29)
+    for _ in range(5):
+        w.say("send", 1, 0)
+    for place in range(31, -1, -1):
+        mail = w.run.mail[place]
+        w.say("receive", mail[1] if mail else 0, place)
+
+
+def full_shelf(w):
+    w.say("start", 3, 5, 255, 2, 4, 2, 2)
+    for slot in range(33):
+        w.say("local", slot % 3)
+        w.say("keep", slot % 3)
+    w.say("drop", 31)
+    w.say("drop", 7)
+    w.say("drop", 7)
+    w.say("before", 7, 8)
+    w.say("compare", 8, 7)
+    for desk in range(3):
+        w.say("keep", desk)
+    w.all_two_ways((0, 3, 7, 30, 31))
+
+
+# What stands in the way of a reset
+
+def follow(w):
+    """Every desk hears the latest of desk 0."""
+    for desk in range(1, w.run.D):
+        w.tell(0, desk)
+
+
+def mail_behind(w):
+    """An old mail must not come back as new."""
+    w.say("start", 3, 3, 60, 1, 2, 2, 2)
+    w.say("send", 0, 2)
+    for _ in range(3):
+        w.say("reset", 0)
+        follow(w)
+    w.say("receive", 2, 0)
+    w.say("reset", 0)
+    follow(w)
+    w.say("send", 1, 2)
+    for _ in range(3):
+        w.say("reset", 0)
+        follow(w)
+    w.say("discard", 0)
+    w.say("reset", 0)
+
+
+def shelf_behind(w):
+    for A in (1, 2):
+        w.say("start", 3, 3, 60, 1, A, 2, 2)
+        w.say("local", 1)
+        w.say("keep", 1)
+        for _ in range(3):
+            w.say("reset", 0)
+            follow(w)
+        w.say("drop", 0)
+        w.say("reset", 0)
+        follow(w)
+        w.say("keep", 0)
+        for _ in range(3):
+            w.say("reset", 0)
+            follow(w)
+
+
+def seats_not_started_count(w):
+    w.say("start", 8, 3, 9, 1, 2, 1, 1)
+    w.say("reset", 0)
+    for desk in range(1, 7):
+        w.tell(0, desk)
+        w.say("reset", 0)
+    w.tell(0, 7)
+    w.say("reset", 0)
+
+
+# Rings
+
+def lap(w):
+    for desk in range(w.run.D):
+        w.tell(desk, (desk + 1) % w.run.D)
+
+
+def rings(w):
+    """With D from 2 to 8 every ring comes round two or three times."""
+    for D in range(2, 9):
+        w.say("start", D, 3, 6, 1, 2, 2, 2)
+        while turned(w.run) < (3 if D < 5 else 2):
+            ring_turn(w, D)
+
+
+def ring_turn(w, D):
+    lap(w)
+    lap(w)
+    chosen = w.run.own(0)[0] % D
+    for desk in range(D):
+        w.turn(desk)
+        if desk == chosen:
+            w.say("keep", desk)
+            w.say("compare", 0, 1)
+            w.say("before", 1, 0)
+
+
+def ring_of_255(w):
+    """P 255, L 2: both desks come round, some 127 phases at a stretch."""
+    w.say("start", 2, 255, 2, 127, 254, 127, 127)
+    reach_of_127(w)
+    w.tell(0, 1)
+    for desk, turns in ((0, 2), (1, 130), (0, 130), (1, 130)):
+        for _ in range(turns):
+            w.turn(desk)
+        w.say("keep", desk)
+        w.all_two_ways((0, 1))
+    w.say("keep", 0)
+    w.all_two_ways(range(4))
+
+
+def reach_of_127(w):
+    """Differences of 126 and 127, each way."""
+    w.say("local", 0)
+    w.say("keep", 0)
+    for _ in range(126):
+        w.say("reset", 0)
+    w.say("keep", 0)
+    w.say("reset", 0)
+    w.say("keep", 0)
+    w.all_two_ways(range(3))
+    for slot in range(3):
+        w.say("drop", slot)
+
+
+def clock_of_255(w):
+    w.say("start", 8, 255, 255, 127, 254, 127, 127)
+    for _ in range(254):
+        w.say("local", 7)
+    w.say("local", 7)
+    w.say("send", 7, 0)
+    w.say("keep", 7)
+    w.say("reset", 7)
+    w.say("send", 7, 0)
+    w.say("receive", 0, 0)
+    w.say("keep", 0)
+    w.say("compare", 0, 1)
+
+
+def clock_of_2(w):
+    w.say("start", 2, 5, 2, 2, 4, 3, 3)
+    w.say("send", 0, 1)
+    w.say("local", 0)
+    w.say("local", 1)
+    w.say("receive", 1, 0)
+    w.say("reset", 1)
+    w.say("receive", 1, 0)
+    w.say("reset", 0)
+    w.say("reset", 0)
+
+
+# Relations
+
+def nought_after_four(w):
+    """0.0 is the newest of all when the ring has come round."""
+    w.say("start", 3, 5, 40, 2, 4, 2, 2)
+    turn_to(w, 4)
+    w.say("keep", 0)
+    w.say("send", 0, 1)
+    w.say("reset", 0)
+    w.say("keep", 0)
+    w.say("receive", 1, 0)
+    w.say("keep", 1)
+    w.say("send", 0, 2)
+    w.say("receive", 2, 0)
+    w.say("keep", 2)
+    w.all_two_ways(range(4))
+
+
+def one_way_out_of_reach(w):
+    """Out of reach one way is never "concurrent"."""
+    for m, n in ((1, 5), (5, 1), (2, 3)):
+        w.say("start", 3, 5, 20, 2, 4, m, n)
+        w.say("local", 0)
+        w.say("local", 1)
+        w.say("keep", 0)
+        w.say("keep", 1)
+        w.say("reset", 0)
+        w.say("keep", 0)
+        w.say("send", 0, 1)
+        w.say("receive", 1, 0)
+        w.say("keep", 1)
+        w.say("reset", 0)
+        w.say("keep", 0)
+        w.say("reset", 1)
+        w.say("keep", 1)
+        w.all_two_ways(range(6))
+
+
+def unended(w):
+    w.say("start", *X)
+    w.say("local", 2)
+
+
+SECTIONS = (
+    no_book_yet, example, case_1_and_2, case_3_to_8, case_9, case_10,
+    case_11_and_12, case_13, setups, odd_numbers, reasons_that_meet, bad_shapes,
+    long_lines, full_mail, full_shelf, mail_behind, shelf_behind,
+    seats_not_started_count, rings, ring_of_255, clock_of_255, clock_of_2,
+    nought_after_four, one_way_out_of_reach, unended,
+)
+
+
+def written():
+    w = Writer()
+    for section in SECTIONS:
+        section(w)
+    return w
+
+
+def data():
+    """The last line lacks its newline."""
+    return b"\n".join(written().lines)
+
+
+def expected():
+    return listing.answers(data())
+
+
+# The self check
+
+def require(holds, what):
+    if not holds:
+        raise AssertionError(f"the stored listing lacks {what}")
+
+
+def check(w, printed):
+    require(EXAMPLE_ANSWERS in printed and EXAMPLE in b"\n".join(w.lines), "the example")
+    numbers = {int(text[:3]) for text in listing.lines_of(printed)}
+    wanted = set(range(18)) - set(NO_LINE_GIVES)
+    require(numbers == wanted, f"the numbers {wanted ^ numbers}")
+    for word in ("yes", "no", *RELATIONS):
+        require(f"\n000 {word}\n".encode() in printed, word)
+    lengths = {len(text) for text in w.lines}
+    require({0, 64, 65} <= lengths, "the lengths 0, 64 and 65")
+    check_runs(w.runs)
+
+
+def check_runs(runs):
+    for D in range(2, 9):
+        require(any(run.D == D and turned(run) >= 2 for run in runs),
+                f"rings come round at {D} desks")
+    for name, number in (("P", 3), ("P", 255), ("L", 2), ("L", 255)):
+        require(any(getattr(run, name) == number and run.events for run in runs),
+                f"{name} of {number}")
+    require(any(run.P == 255 and turned(run) >= 1 for run in runs), "a ring of 255")
+
+
+def turned(run):
+    """How often the ring has come round at every desk."""
+    return min(run.own(desk)[0] for desk in range(run.D)) // run.P
+
+
+def main():
+    printed = expected()
+    check(written(), printed)
+    sys.stdout.buffer.write({"stdin": data(), "stdout": printed}[sys.argv[1]])
+
+
+if __name__ == "__main__":
+    main()

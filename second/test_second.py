@@ -1,0 +1,374 @@
+"""Tests of the second opinion itself: python3 second/test_second.py
+
+The example and the cases of document 01; that the fixed seeds and the stored
+listing find each error the desks would make; and that the runners report.
+"""
+
+import contextlib
+import ctypes
+import io
+import os
+import random
+import sys
+import unittest
+from unittest import mock
+
+sys.path.insert(0, os.path.dirname(os.path.dirname(os.path.abspath(__file__))))
+
+from second import book, compare, listing, raw, seeds, stored
+
+X = book.Setup(3, 5, 4, 2, 4, 2, 2)
+
+
+def fresh(setup=X):
+    return book.start(bytes(book.BOOK_BYTES), *setup)[2]
+
+
+def calls(given, *steps):
+    """Make the steps one after another; the last answer and the book."""
+    for verb, *numbers in steps:
+        number, values, given = getattr(book, verb)(given, *numbers)
+    return number, values, given
+
+
+def label(owner, *pairs, setup=X):
+    row = bytes(number for pair in pairs for number in pair).ljust(16, b"\0")
+    return book.record_of(setup, book.Stamp(owner, row))
+
+
+class Cases(unittest.TestCase):
+    """Document 01, on both sides of the edge."""
+
+    def test_example(self):
+        self.assertEqual(listing.answers(stored.EXAMPLE), stored.EXAMPLE_ANSWERS)
+
+    def test_1_and_2_setup(self):
+        zero = bytes(book.BOOK_BYTES)
+        self.assertEqual(book.start(zero, *X)[0], book.DONE)
+        self.assertEqual(book.start(zero, *X._replace(P=4)), (book.BAD_SETUP, (), zero))
+        self.assertEqual(book.start(zero, *X._replace(A=1)), (book.BAD_SETUP, (), zero))
+
+    def test_3_and_4_stamp_and_record(self):
+        _, (stamp,), after = calls(fresh(), ("local", 0))
+        self.assertEqual(stamp, (0, bytes((0, 1)) + bytes(14)))
+        _, _, after = calls(after, ("keep", 0))
+        record = bytes.fromhex("535400030001") + bytes(14)
+        self.assertEqual(book.write(after, 0, b"\xff" * 21), (0, (record + b"\xff",), after))
+        self.assertEqual(book.write(after, 0, b"\xff" * 19), (book.NO_ROOM, (), after))
+        self.assertEqual(book.show(after, 0), (0, (record[4:],), after))
+        self.assertEqual(book.record_of(X, book.read_stamp(X, record)), record)
+
+    def test_5_to_8_refusals(self):
+        self.assertEqual(book.keep(fresh(), 2)[0], book.NO_EVENT)
+        self.assertEqual(book.send(fresh(), 0, 0)[0], book.SAME_DESK)
+        self.assertEqual(book.send(fresh(), 3, 3)[0], book.NO_DESK)
+        three = [("local", 0)] * 3
+        self.assertEqual(calls(fresh(), *three)[1][0].row[1], 3)
+        self.assertEqual(calls(fresh(), *three, ("local", 0))[0], book.PHASE_FULL)
+        two = [("reset", 0)] * 2
+        self.assertEqual(calls(fresh(), *two)[1][0].row[:2], bytes((2, 0)))
+        self.assertEqual(calls(fresh(), *two, ("reset", 0))[0], book.SEAT_BEHIND)
+
+    def test_9_later_is_the_smaller_lag(self):
+        given = bytearray(fresh())
+        for own, later in ((0, 0), (4, 4)):
+            given[book.own_entry(1)] = own
+            pairs = bytes((4, 3)), bytes((0, 0))
+            self.assertEqual(book.later_pair(given, 1, *pairs)[0], later)
+            self.assertEqual(book.later_pair(given, 1, *pairs[::-1])[0], later)
+
+    def test_10_reach_off_the_book(self):
+        e = label(0, (0, 1), (0, 0), (0, 0))
+        read = book.read_stamp(X, e)
+        for r, d in ((0, 0), (1, 1), (2, None), (3, None), (4, -1)):
+            f = label(1, (r, 0), (0, 1), (0, 0))
+            self.assertEqual(
+                book.difference_off_book(X, read, book.read_stamp(X, f)), d)
+            number = book.DONE if d is not None else book.OUT_OF_REACH
+            self.assertEqual(book.label_before(X, e, f)[0], number)
+
+    def test_11_kept_twice(self):
+        given = calls(fresh(), ("local", 0), ("keep", 0), ("keep", 0))[2]
+        self.assertEqual(book.compare(given, 0, 1)[1], ("same",))
+        self.assertEqual(book.before(given, 0, 1)[1], (False,))
+        self.assertEqual(book.before(given, 1, 0)[1], (False,))
+
+    def test_12_not_yours(self):
+        given = calls(fresh(), ("send", 0, 1))[2]
+        self.assertEqual(book.receive(given, 2, 0), (book.NOT_YOURS, (), given))
+        self.assertEqual(book.receive(given, 1, 0)[0], book.DONE)
+
+    def test_13_reach_on_the_book(self):
+        steps = [("local", 0), ("keep", 0), ("reset", 0)]
+        given = calls(fresh(), *steps, ("keep", 0))[2]
+        self.assertEqual(book.compare(given, 0, 1)[:2], (0, ("before",)))
+        given = calls(fresh(), *steps, ("reset", 0), ("keep", 0))[2]
+        self.assertEqual(book.compare(given, 0, 1)[:2], (book.OUT_OF_REACH, ()))
+
+    def test_newest(self):
+        old, new = label(0, (4, 3), (0, 0), (0, 0)), label(0, (0, 0), (0, 0), (0, 0))
+        apart = label(1, (3, 0), (0, 1), (0, 0))
+        self.assertEqual(book.label_newest(X, old, new), (0, (2,)))
+        self.assertEqual(book.label_newest(X, new, old), (0, (1,)))
+        self.assertEqual(book.label_newest(X, new, new), (0, (1,)))
+        self.assertEqual(book.label_newest(X, old, apart), (0, (0,)))
+        self.assertEqual(book.label_newest(X, new, apart), (book.OUT_OF_REACH, ()))
+        self.assertEqual(book.label_newest(X, new, new[:19]), (book.BAD_STAMP, ()))
+        self.assertEqual(book.label_newest(X._replace(P=4), b"", b""), (book.BAD_SETUP, ()))
+
+    def test_numbers_of_any_size(self):
+        given = calls(fresh(), ("local", 0), ("keep", 0))[2]
+        for big in (256, 2**32, 2**64 - 1, 2**64):
+            self.assertEqual(book.start(given, *X._replace(D=big))[0], book.BAD_SETUP)
+            self.assertEqual(book.send(given, 0, big)[0], book.NO_DESK)
+            self.assertEqual(book.receive(given, 0, big)[0], book.NO_PLACE)
+            self.assertEqual(book.before(given, 0, big)[0], book.NO_PLACE)
+
+
+class Text(unittest.TestCase):
+    def test_ends(self):
+        self.assertEqual(listing.answers(b""), b"")
+        self.assertEqual(listing.answers(b"\n"), b"017\n")
+        self.assertEqual(listing.answers(b"\n\n"), b"017\n017\n")
+        self.assertEqual(listing.answers(b"local 000"), b"001\n")
+        self.assertEqual(listing.answers(b"local 000\n\n"), b"001\n017\n")
+
+    def test_shapes(self):
+        for bad in (b"local 7", b"local 0007", b"local  007", b"local 007 ", b" local 007",
+                    b"Local 007", b"local\t007", b"local 007\r", b"local", b"local 00\xb2",
+                    b"show 000", b"local 000 000", b"local 000" + b" " * 60, b"local 007\0"):
+            self.assertEqual(listing.answers(bad), b"017\n", bad)
+        self.assertEqual(listing.answers(b"start 999 999 999 999 999 999 999"), b"002\n")
+
+
+class Stored(unittest.TestCase):
+    def test_files_are_what_is_written(self):
+        folder = os.path.join(os.path.dirname(os.path.abspath(__file__)),
+                              "..", "crates", "desks")
+        for name, data in (("stdin", stored.data()), ("stdout", stored.expected())):
+            with open(os.path.join(folder, name), "rb") as file:
+                self.assertEqual(file.read(), data, name)
+
+
+# The errors the desks would make, each put in place of a part of book.py.
+
+TRUE = {name: getattr(book, name) for name in
+        ("receive", "reset_number", "merge", "later_pair", "answer_compare",
+         "says_before", "row_sound", "used_place_sound")}
+
+
+def larger_byte_is_later(given, desk, one, other):
+    return max(one, other)
+
+
+def nought_is_nothing(given, desk, one, other):
+    return max(one, other) if bytes(2) in (one, other) \
+        else TRUE["later_pair"](given, desk, one, other)
+
+
+def nought_is_never_seen(e, f, d):
+    known = f.row[2 * e.owner:2 * e.owner + 2]
+    return known != bytes(2) and TRUE["says_before"](e, f, d)
+
+
+def place_stays_used(given, desk, place):
+    number, values, after = TRUE["receive"](given, desk, place)
+    if number == book.DONE:
+        at = slice(book.place_at(place), book.place_at(place + 1))
+        after = after[:at.start] + given[at] + after[at.stop:]
+    return number, values, after
+
+
+def refused_receipt_frees(given, desk, place):
+    number, values, after = TRUE["receive"](given, desk, place)
+    if number in (book.NOT_YOURS, book.PHASE_FULL):
+        after = book.discard(given, place)[2]
+    return number, values, after
+
+
+def only_seats_are_checked(given, desk):
+    number = TRUE["reset_number"](given, desk)
+    return book.DONE if number in (book.MAIL_BEHIND, book.SHELF_BEHIND) else number
+
+
+def own_phase_from_mail(after, given, desk, place):
+    TRUE["merge"](after, given, desk, place)
+    after[book.own_entry(desk)] = given[book.place_at(place) + 4 + 2 * desk]
+
+
+def own_entry_is_merged(after, given, desk, place):
+    TRUE["merge"](after, given, desk, place)
+    own, mail = book.own_entry(desk), book.place_at(place) + 4 + 2 * desk
+    later = TRUE["later_pair"](given, desk, given[own:own + 2], given[mail:mail + 2])
+    after[own + 1] = min(later[1], 254)
+
+
+def unreachable_is_concurrent(e, f, d, back):
+    if (d is None) != (back is None):
+        return book.DONE, ("concurrent",)
+    return TRUE["answer_compare"](e, f, d, back)
+
+
+def any_filler(row, setup, own, limit):
+    return TRUE["row_sound"](row[:2 * setup.D] + bytes(16 - 2 * setup.D), setup, own, limit)
+
+
+def one_more_lag(row, setup, own, limit):
+    return TRUE["row_sound"](row, setup, own, limit + 1)
+
+
+def to_oneself_is_sound(given, at, setup):
+    return TRUE["used_place_sound"](given, at, setup) or given[at + 2] == given[at + 3]
+
+
+ERRORS = (
+    ("later_pair", larger_byte_is_later), ("says_before", nought_is_never_seen),
+    ("receive", place_stays_used), ("receive", refused_receipt_frees),
+    ("reset_number", only_seats_are_checked), ("merge", own_phase_from_mail),
+    ("answer_compare", unreachable_is_concurrent),
+)
+
+# The last five no listing can show: they need books that no run reaches.
+RAW_ERRORS = (
+    ("later_pair", larger_byte_is_later), ("says_before", nought_is_never_seen),
+    ("receive", place_stays_used), ("reset_number", only_seats_are_checked),
+    ("answer_compare", unreachable_is_concurrent),
+    ("later_pair", nought_is_nothing), ("merge", own_entry_is_merged),
+    ("row_sound", any_filler), ("row_sound", one_more_lag),
+    ("used_place_sound", to_oneself_is_sound),
+)
+
+
+def answers_with(name, error, data):
+    """The answers of a program that makes an error and checks nothing."""
+    with mock.patch.object(book, name, error), \
+            mock.patch.object(listing.Program, "hold", lambda *_: None):
+        return listing.answers(data)
+
+
+class Errors(unittest.TestCase):
+    def test_stored_listing_finds_each(self):
+        data, expected = stored.data(), stored.expected()
+        for name, error in ERRORS:
+            self.assertNotEqual(answers_with(name, error, data), expected, error.__name__)
+
+    def test_seeds_find_each(self):
+        known = [(data, listing.answers(data)) for data in map(seeds.listing, range(1, 41))]
+        for name, error in ERRORS:
+            self.assertTrue(any(answers_with(name, error, data) != expected
+                                for data, expected in known), error.__name__)
+
+    def test_the_two_routes_disagree(self):
+        for name, error in ERRORS:
+            with mock.patch.object(book, name, error), \
+                    self.assertRaises(listing.Disagree, msg=error.__name__):
+                listing.answers(stored.data())
+
+
+# The runners
+
+PROGRAM = """\
+import sys
+sys.path.insert(0, {root!r})
+from second import book, listing
+listing.Program.hold = lambda *_: None
+{change}
+sys.stdout.buffer.write(listing.answers(sys.stdin.buffer.read()))
+"""
+
+
+def run_compare(change, first, last):
+    """The runner on a program that is the second opinion, changed."""
+    root = os.path.dirname(os.path.dirname(os.path.abspath(__file__)))
+    told = io.StringIO()
+    with contextlib.redirect_stdout(told):
+        code = PROGRAM.format(root=root, change=change)
+        agreed, _, alike = compare.compare([sys.executable, "-c", code], first, last)
+    return agreed, alike, told.getvalue()
+
+
+class Runner(unittest.TestCase):
+    def test_alike(self):
+        self.assertEqual(run_compare("", 1, 3),
+                         (len(seeds.SHORT_LISTINGS) + 3, True, ""))
+
+    def test_a_difference_is_told(self):
+        _, alike, told = run_compare(
+            "book.later_pair = lambda given, desk, *pairs: max(pairs)", 1, 40)
+        self.assertFalse(alike)
+        for part in ("seed ", "line ", "second:  b'000", "program: b'000"):
+            self.assertIn(part, told)
+
+    def test_a_bad_end_is_told(self):
+        _, alike, told = run_compare("import atexit, os; atexit.register(os._exit, 3)", 1, 1)
+        self.assertFalse(alike)
+        self.assertIn("ended with 3", told)
+
+
+# The C interface, by functions that stand in for it
+
+def stand_in(name, errors):
+    """A function with the C interface's arguments, over a book.py with errors."""
+    def function(*flat):
+        arguments = lent_arguments(name, list(flat))
+        with mock.patch.dict(vars(book), errors):
+            number, memories = raw.expected(name, arguments)
+        lent = [argument for argument in arguments if isinstance(argument, raw.Lent)]
+        for buffer, memory in zip(lent, memories):
+            content = memory[raw.GUARD:raw.GUARD + buffer.length]
+            ctypes.memmove(buffer.lent_at, content, buffer.length)
+        return number
+    return function
+
+
+def lent_arguments(name, flat):
+    arguments = []
+    types = raw.argument_types(name)
+    while types:
+        argument = flat.pop(0)
+        if types.pop(0) is ctypes.c_void_p:
+            length = flat.pop(0)
+            types.pop(0)
+            buffer = raw.Lent(random, ctypes.string_at(argument, length))
+            buffer.lent_at, argument = argument, buffer
+        arguments.append(argument)
+    return arguments
+
+
+def stand_in_library(**errors):
+    handle = type("Handle", (), {})()
+    for name in raw.NEEDS:
+        setattr(handle, "gulambitok_" + name, stand_in(name, errors))
+    return raw.Library(handle)
+
+
+# Every number each call can answer.
+POSSIBLE = {
+    "start": {0, 1, 2}, "local": {0, 1, 3, 8, 15}, "send": {0, 1, 3, 4, 8, 9, 15},
+    "receive": {0, 1, 3, 5, 6, 8, 15}, "reset": {0, 1, 3, 11, 12, 13, 15},
+    "keep": {0, 1, 3, 7, 10, 15}, "drop": {0, 1, 5}, "discard": {0, 1, 5},
+    "before": {0, 1, 5, 15, 16}, "compare": {0, 1, 5, 15, 16},
+    "show": {0, 1, 5, 15}, "write": {0, 1, 5, 15},
+    "label_before": {0, 2, 14, 15, 16}, "label_compare": {0, 2, 14, 15, 16},
+    "label_newest": {0, 2, 14, 15, 16},
+}
+
+
+class Raw(unittest.TestCase):
+    def test_every_number_of_every_call(self):
+        seen = raw.compare(stand_in_library(), raw.DEFAULT_CALLS, 1)
+        for name, numbers in POSSIBLE.items():
+            self.assertEqual({key[1] for key in seen if key[0] == name}, numbers, name)
+        for name in ("compare", "label_compare"):
+            self.assertEqual({key[2] for key in seen if key[:2] == (name, 0)}, {1, 2, 3, 4, 5})
+
+    def test_each_error_is_found(self):
+        for name, error in RAW_ERRORS:
+            with contextlib.redirect_stdout(io.StringIO()) as told:
+                seen = raw.compare(stand_in_library(**{name: error}), raw.DEFAULT_CALLS, 1)
+            self.assertIsNone(seen, error.__name__)
+            self.assertIn("differs", told.getvalue())
+
+
+if __name__ == "__main__":
+    unittest.main()
