@@ -10,8 +10,7 @@ use native.Mathlib.Decide.{decLt}
 use lib.Dec.{ltb, eqb}
 use borrow.Author.Tests.{eqb-true, eq-eqb, ltb-true, ltb-false, lt-ltb, le-ltb}
 use Rattle.tools.proofs.Tests.{and-true-l, or-false-l}
-use Rattle.tools.specs.Tests.{pick}
-use Rattle.ring.specs.Phases.{Pair, Phases, ring, lagOf, nextOf, laterBy, isLater, later}
+use Rattle.ring.specs.Phases.{Pair, Phases, Gap, ring, lagOf, nextOf, laterBy, lagGap, isLater, later}
 
 pub lag-below : (P own v : ℕ) → 0 < P → lagOf P own v < P
 lag-below P own v h = mod-lt (own + P - v) h
@@ -108,6 +107,30 @@ turn-next P t v =
     let e : v + t + 1 ≡ v + 1 + t = omega arith in
     mod-add-mod (v + t) P 1 ∙ ap (λ n. n % P) e ∙ sym (mod-add-mod (v + 1) P t)
 
+-- later means a smaller lag
+later-by : (d : Gap) (ce cf : ℕ) → d .down < d .up → laterBy d ce cf ≡ true
+unfolding laterBy
+later-by d ce cf l = rw (lt-ltb (d .down) (d .up) l)
+
+-- the own phase is later than every other, the phase 0 too: the newest phase may be 0
+pub own-latest : (P o : ℕ) (e f : Pair) → o < P → e .phase < P → (e .phase ≡ o → ⊥) → f .phase ≡ o → isLater (ring P) o f e ≡ true
+own-latest P o e f ho he ne q =
+    later-by (lagGap (ring P) o e f) (e .clock) (f .clock)
+    (rw q (omega (arith, lag-self P o, lag-other P o (e .phase) ho he ne)))
+
+-- at equal lag the larger clock is later
+pub later-clock : (Z : Phases) (o : ℕ) (e f : Pair) → Z .lag o (f .phase) ≡ Z .lag o (e .phase)
+    → isLater Z o f e ≡ ltb (e .clock) (f .clock)
+unfolding laterBy
+later-clock Z o e f q =
+    rw (q, le-ltb (Z .lag o (e .phase)) (Z .lag o (e .phase)) (omega arith), eq-eqb (Z .lag o (e .phase)) (Z .lag o (e .phase)) refl)
+
+pub later-takes : (Z : Phases) (o : ℕ) (e f : Pair) → isLater Z o f e ≡ true → later Z o e f ≡ f
+later-takes Z o e f t = rw t
+
+pub later-stays : (Z : Phases) (o : ℕ) (e f : Pair) → isLater Z o f e ≡ false → later Z o e f ≡ e
+later-stays Z o e f t = rw t
+
 -- the later of two pairs lags no more, in any arithmetic
 pub later-lag : (Z : Phases) (o : ℕ) (e f : Pair) → isLater Z o f e ≡ true → Z .lag o (f .phase) ≤ Z .lag o (e .phase)
 unfolding laterBy
@@ -137,19 +160,6 @@ pub later-least : (Z : Phases) (o : ℕ) (e f : Pair)
 later-least Z o e f = go (isLater Z o f e) refl
   where
     go : (t : Bool) → isLater Z o f e ≡ t
-        → (Z .lag o ((pick t f e) .phase) ≤ Z .lag o (e .phase)) × (Z .lag o ((pick t f e) .phase) ≤ Z .lag o (f .phase))
-    go true q = (later-lag Z o e f q, omega arith)
-    go false q = (omega arith, not-later-lag Z o e f q)
-
--- the own phase is later than every other, the phase 0 too: the newest phase may be 0
-pub own-latest : (P o : ℕ) (e f : Pair) → o < P → e .phase < P → (e .phase ≡ o → ⊥) → f .phase ≡ o → isLater (ring P) o f e ≡ true
-unfolding laterBy
-own-latest P o e f ho he ne q =
-    rw (q, lag-self P o, lt-ltb 0 (lagOf P o (e .phase)) (lag-other P o (e .phase) ho he ne))
-
--- at equal lag the larger clock is later
-pub later-clock : (Z : Phases) (o : ℕ) (e f : Pair) → Z .lag o (f .phase) ≡ Z .lag o (e .phase)
-    → isLater Z o f e ≡ ltb (e .clock) (f .clock)
-unfolding laterBy
-later-clock Z o e f q =
-    rw (q, le-ltb (Z .lag o (e .phase)) (Z .lag o (e .phase)) (omega arith), eq-eqb (Z .lag o (e .phase)) (Z .lag o (e .phase)) refl)
+        → (Z .lag o (later Z o e f .phase) ≤ Z .lag o (e .phase)) × (Z .lag o (later Z o e f .phase) ≤ Z .lag o (f .phase))
+    go true q = rw (later-takes Z o e f q) (later-lag Z o e f q, omega arith)
+    go false q = rw (later-stays Z o e f q) (omega arith, not-later-lag Z o e f q)

@@ -6,7 +6,7 @@ use mathlib.Core.Option.{Option, none, some}
 use Prim.Native.Nat.{ℕ, zero, suc, _+_, _-_, _*_, _≤_, _<_}
 use native.Mathlib.Omega.{arith}
 use lib.Dec.{ltb, eqb}
-use borrow.Author.Tests.{eqb-true, eqb-false, ne-eqb, ltb-true}
+use borrow.Author.Tests.{eqb-false, ne-eqb, ltb-true}
 use Rattle.ring.specs.Phases.{Phases, line, Pair, isLater, later}
 use Rattle.rules.specs.Fits.{phases}
 use Rattle.rules.proofs.Setups.{Permitted}

@@ -1,7 +1,7 @@
 -- The answer table of document 01: the number that an act answers is the smallest whose row is due.
 -- Assumes nothing.
-use mathlib.Core.Path.{_≡_, refl, ap, sym, _∙_}
-use mathlib.Core.Bool.{Bool, true, false, not, _&&_, _||_, true≢false, false≢true}
+use mathlib.Core.Path.{_≡_, refl, ap, _∙_}
+use mathlib.Core.Bool.{Bool, true, false, not, _&&_, _||_, false≢true}
 use mathlib.Core.Option.{Option, none, some}
 use mathlib.Core.Logic.{_⊎_, inl, inr}
 use Prim.Native.Nat.{ℕ, _+_, _*_, _≤_, _<_}
@@ -15,8 +15,8 @@ use Rattle.tools.proofs.Tests.{and-true-l, and-true-r, and-false, any-at, any-t
 use Rattle.ring.specs.Phases.{Phases, Gap}
 use Rattle.rules.specs.declared.Setup.{Setup}
 use Rattle.rules.specs.Numbers.{Name, NoDesk, SameDesk, NoPlace, NotYours, NoEvent, PhaseFull, MailFull, ShelfFull, SeatBehind, MailBehind, ShelfBehind, NoRoom, OutOfReach, number}
-use Rattle.rules.specs.Model.{Held, Tables, Act, local, reset, keep, drop, discard, show, send, receive, before, compare, write, step, used, toIn, own, freeMail, freeSlot, lags, near, isOut, gapHeld, reasons}
-use Rattle.rules.specs.Due.{AtDesk, at-local, at-send, at-sent, at-receive, at-reset, at-keep, Ticks, by-local, by-send, by-receive, OfMail, of-receive, of-discard, OfSlot, of-drop, of-before, of-before′, of-compare, of-compare′, of-show, of-write, Asks, asks-before, asks-compare, asks-back, Gone, Beyond, Due, no-desk, same-desk, no-mail, no-slot, not-yours, no-event, phase-full, mail-full, shelf-full, seat-behind, mail-behind, shelf-behind, no-room, out-of-reach, DueNumber}
+use Rattle.rules.specs.Model.{Held, Tables, Act, local, reset, keep, drop, discard, show, send, receive, before, compare, write, step, used, toIn, own, atLimit, lags, near, isOut, gapHeld, reasons}
+use Rattle.rules.specs.Due.{at-local, at-send, at-sent, at-receive, at-reset, at-keep, by-local, by-send, by-receive, of-receive, of-discard, OfSlot, of-drop, of-before, of-before′, of-compare, of-compare′, of-show, of-write, Asks, asks-before, asks-compare, asks-back, Gone, Beyond, Due, no-desk, same-desk, no-mail, no-slot, not-yours, no-event, phase-full, mail-full, shelf-full, seat-behind, mail-behind, shelf-behind, no-room, out-of-reach, DueNumber}
 use Rattle.rules.proofs.Reasons.{act-number}
 
 -- each test of the list, and what its row says
@@ -88,6 +88,12 @@ module _ (Z : Phases) (X : Setup) (b : Tables) where
       → isOut (gapHeld Z X b (b .shelf s) (b .shelf t)) ≡ true
   out-test s t e f p q g = rw (p, q) (beyond-test X (record { up = lagAt (e .by) e; down = lagAt (e .by) f }) g)
 
+  is-at-limit : (j : ℕ) → atLimit X b j ≡ true → X .clocks ≤ own b j .clock + 1
+  is-at-limit j t = is-least (own b j .clock + 1) (X .clocks) t
+
+  at-limit : (j : ℕ) → X .clocks ≤ own b j .clock + 1 → atLimit X b j ≡ true
+  at-limit j l = at-least (own b j .clock + 1) (X .clocks) l
+
   -- a row that is due stands in the list of reasons, by its number
   listed : {c : Act} {w : Name} → Due Z X b c w → Holds (reasons Z X b c) (number w)
   unfolding reasons
@@ -109,9 +115,9 @@ module _ (Z : Phases) (X : Setup) (b : Tables) where
   listed (no-slot (of-write {s = s}) g) = inl (refl, gone-test s (b .shelf s) g)
   listed (not-yours {j = j} {p = p} {w = w} e ne) = inr (inr (inl (refl, rw e (ap not (ne-eqb (w .to) j ne)))))
   listed (no-event e) = inr (inl (refl, ap not e))
-  listed (phase-full (by-local {j = j}) l) = inr (inl (refl, at-least (own b j .clock + 1) (X .clocks) l))
-  listed (phase-full (by-send {j = j}) l) = inr (inr (inl (refl, at-least (own b j .clock + 1) (X .clocks) l)))
-  listed (phase-full (by-receive {j = j}) l) = inr (inr (inr (inl (refl, at-least (own b j .clock + 1) (X .clocks) l))))
+  listed (phase-full (by-local {j = j}) l) = inr (inl (refl, at-limit j l))
+  listed (phase-full (by-send {j = j}) l) = inr (inr (inl (refl, at-limit j l)))
+  listed (phase-full (by-receive {j = j}) l) = inr (inr (inr (inl (refl, at-limit j l))))
   listed (mail-full h) = inr (inr (inr (inl (refl, full (b .mail) h))))
   listed (shelf-full h) = inr (inr (inl (refl, full (b .shelf) h)))
   listed (seat-behind {j = j} {k = k} l ne q) =
@@ -155,7 +161,7 @@ module _ (Z : Phases) (X : Setup) (b : Tables) where
   told : (c : Act) (k : ℕ) → Holds (reasons Z X b c) k → Down c k
   unfolding reasons
   told (local j) k (inl (q, h)) = due NoDesk q (no-desk at-local (is-least _ _ h))
-  told (local j) k (inr (inl (q, h))) = due PhaseFull q (phase-full by-local (is-least _ _ h))
+  told (local j) k (inr (inl (q, h))) = due PhaseFull q (phase-full by-local (is-at-limit j h))
   told (local j) k (inr (inr h)) = absurd h
   told (send j i) k (inl (q, h)) = go (either (not (ltb j (X .desks))) _ h)
     where
@@ -163,7 +169,7 @@ module _ (Z : Phases) (X : Setup) (b : Tables) where
       go (inl h) = due NoDesk q (no-desk at-send (is-least _ _ h))
       go (inr h) = due NoDesk q (no-desk at-sent (is-least _ _ h))
   told (send j i) k (inr (inl (q, h))) = due SameDesk q (rw (← (eqb-true j i h)) same-desk)
-  told (send j i) k (inr (inr (inl (q, h)))) = due PhaseFull q (phase-full by-send (is-least _ _ h))
+  told (send j i) k (inr (inr (inl (q, h)))) = due PhaseFull q (phase-full by-send (is-at-limit j h))
   told (send j i) k (inr (inr (inr (inl (q, h))))) = due MailFull q (mail-full (is-full (b .mail) h))
   told (send j i) k (inr (inr (inr (inr h)))) = absurd h
   told (receive j p) k (inl (q, h)) = due NoDesk q (no-desk at-receive (is-least _ _ h))
@@ -173,7 +179,7 @@ module _ (Z : Phases) (X : Setup) (b : Tables) where
       go : (o : Option Held) → b .mail p ≡ o → not (eqb (toIn o) j) ≡ true → Down (receive j p) k
       go none e h = (5, omega arith, (NoPlace, refl, no-mail of-receive (inr e)))
       go (some w) e h = due NotYours q (not-yours e (eqb-false (w .to) j (not-true _ h)))
-  told (receive j p) k (inr (inr (inr (inl (q, h))))) = due PhaseFull q (phase-full by-receive (is-least _ _ h))
+  told (receive j p) k (inr (inr (inr (inl (q, h))))) = due PhaseFull q (phase-full by-receive (is-at-limit j h))
   told (receive j p) k (inr (inr (inr (inr h)))) = absurd h
   told (reset j) k (inl (q, h)) = due NoDesk q (no-desk at-reset (is-least _ _ h))
   told (reset j) k (inr (inl (q, h))) =

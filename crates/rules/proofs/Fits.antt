@@ -1,15 +1,13 @@
 -- Every act on tables that fit leaves tables that fit, on the ring.
 -- Assumes nothing.
 use mathlib.Core.Path.{_≡_, refl, ap, sym, subst, fun-ext}
-use mathlib.Core.Bool.{Bool, true, false, _&&_, true≢false, false≢true}
+use mathlib.Core.Bool.{Bool, true, false, true≢false, false≢true}
 use mathlib.Core.Option.{Option, none, some}
 use Prim.Native.Nat.{ℕ, zero, suc, _+_, _*_, _≤_, _<_}
 use native.Mathlib.Omega.{arith}
-use lib.Dec.{ltb, eqb}
-use borrow.Author.Tests.{eqb-true, eqb-false, ne-eqb, ltb-true}
+use borrow.Author.Tests.{eqb-false, ne-eqb}
 use Rattle.tools.specs.Tests.{pick}
 use Rattle.tools.specs.Tables.{put, Each}
-use Rattle.tools.proofs.Tests.{and-true-l}
 use Rattle.tools.proofs.Tables.{put-all, put-both, put-same}
 use Rattle.ring.specs.Phases.{lagOf, nextOf, ring, Pair, isLater, later}
 use Rattle.ring.proofs.Ring.{lag-self, lag-next, next-below, later-lag}

@@ -1,7 +1,7 @@
 -- DEMAND 3, stamps off the book: any two stamps that a run has answered since its last accepted start, kept or not, are answered
 -- as the history has it by before, compare and newest, provided each true difference asked about is within the permission.
 -- Assumes nothing.
-use mathlib.Core.Path.{_≡_, refl, ap, sym, subst}
+use mathlib.Core.Path.{_≡_, ap, sym, subst}
 use mathlib.Core.Bool.{true}
 use mathlib.Core.Option.{some}
 use mathlib.Core.List.{List}
@@ -9,7 +9,9 @@ use mathlib.Core.Logic.{inl, inr}
 use Prim.Native.Nat.{ℕ, _+_, _-_, _≤_, _<_}
 use native.Mathlib.Omega.{arith}
 use native.Mathlib.Decide.{decLt}
+use lib.Dec.{ltb}
 use borrow.Author.Tests.{lt-ltb, le-ltb}
+use Rattle.tools.proofs.Tests.{pick-true}
 use Rattle.ring.specs.Phases.{Gap}
 use Rattle.ring.proofs.Ring.{ring-lag, ring-back}
 use Rattle.rules.specs.declared.Setup.{Setup}
@@ -18,9 +20,9 @@ use Rattle.rules.specs.declared.Relation.the-variants.{Before, After, Sa
 use Rattle.rules.specs.Setups.{permits}
 use Rattle.rules.specs.Model.{Row, Answer, accepted, says, relates, relation}
 use Rattle.rules.specs.Calls.{Call}
-use Rattle.rules.specs.Labels.{Label, gapOff, beforeOff, compareOff, newer, newestBy, newestOff}
+use Rattle.rules.specs.Labels.{Label, First, gapOff, beforeOff, compareOff, newer, newestBy, newestOff}
 use Rattle.rules.specs.Round.{roundRow}
-use Rattle.rules.specs.History.{Log, State, logAfter, setupAfter}
+use Rattle.rules.specs.History.{Log, Leads, State, logAfter, setupAfter}
 use Rattle.rules.specs.Stamps.{StampOf, Answered}
 use Rattle.rules.specs.Demand.{InReach, Stands, BeforeSaid, CompareSaid, Newer}
 use Rattle.rules.proofs.Setups.{Permitted, permitted}
@@ -54,13 +56,11 @@ module _ (X : Setup) (ok : Permitted X) (j : ℕ) (e f : Row) where
             omega (arith, l),
           )
       go (yes l) =
-          let q = ring-back (X .phases) (e j .phase) (f j .phase) l (omega (arith, r, forth, reach)) in (
-            record { up = 0; down = X .phases - (X .phases - (e j .phase - f j .phase)) },
-            rw (
-              q,
-              le-ltb (X .phases - (e j .phase - f j .phase)) (X .ahead) (omega (arith, r, reach, l)),
-              lt-ltb (X .phases - (X .phases - (e j .phase - f j .phase))) (X .back) (omega (arith, r, reach, back)),
-            ),
+          let q = ring-back (X .phases) (e j .phase) (f j .phase) l (omega (arith, r, forth, reach)) in
+          let down = X .phases - (X .phases - (e j .phase - f j .phase)) in (
+            record { up = 0; down = down },
+            rw (q, le-ltb (X .phases - (e j .phase - f j .phase)) (X .ahead) (omega (arith, r, reach, l)))
+                (pick-true (ltb down (X .back)) _ _ (lt-ltb down (X .back) (omega (arith, r, reach, back)))),
             omega (arith, r, reach, forth, l),
           )
 
@@ -96,10 +96,17 @@ module _ (X : Setup) (fair : permits X ≡ true) (h : Log) (c : Causal X h) (x y
         stands X h c x y lx ly (o .0) (p .0) (o .2) (p .2),
       )
 
+-- the first, if they are the same or it is after the other
+first-same : (h : Log) (x y : ℕ) → x ≡ y → Newer h x y First
+first-same h x y q = inl q
+
+first-after : (h : Log) (x y : ℕ) → Leads h y x → Newer h x y First
+first-after h x y l = inr l
+
 newer-is : (h : Log) (x y : ℕ) (r : Relation) → Stands h x y r → Newer h x y (newer r)
 newer-is h x y Before w = w
-newer-is h x y After w = inr w
-newer-is h x y Same w = inl w
+newer-is h x y After w = first-after h x y w
+newer-is h x y Same w = first-same h x y w
 newer-is h x y Concurrent w = w
 newer-is h x y Crossed w = absurd w
 

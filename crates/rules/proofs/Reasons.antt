@@ -1,17 +1,15 @@
 -- REASONS, for every call: a number is answered exactly when its reason holds and no smaller one does, 0 exactly when none
 -- does; a refusal answers its number only, and leaves the book as it was.
 -- Assumes nothing.
-use mathlib.Core.Path.{_≡_, refl, ap, _∙_}
-use mathlib.Core.Bool.{Bool, true, false, _||_}
+use mathlib.Core.Path.{_≡_, refl, ap}
+use mathlib.Core.Bool.{true, _||_}
 use mathlib.Core.Option.{Option}
 use Prim.Native.Nat.{ℕ, zero, suc}
-use native.Mathlib.Omega.{arith}
 use Rattle.tools.specs.Reasons.{first, ascending, Holds, Smallest}
 use Rattle.tools.proofs.Reasons.{first-smallest}
 use Rattle.ring.specs.Phases.{Phases}
 use Rattle.rules.specs.declared.Setup.{Setup}
-use Rattle.rules.specs.Setups.{permits}
-use Rattle.rules.specs.Model.{Tables, Act, local, reset, keep, drop, discard, show, send, receive, before, compare, write, Value, Answer, refusal, accepted, nothing, isOut, reasons, why, done, step, settle}
+use Rattle.rules.specs.Model.{Tables, Act, local, reset, keep, drop, discard, show, send, receive, before, compare, write, Value, refusal, accepted, nothing, isOut, reasons, step}
 use Rattle.rules.specs.Calls.{Book, Call, start, on, Turn, freshBook, settled, turnOf, call}
 use Rattle.rules.specs.Labels.{Label, Neither, gapRead, whyOff, settleOff, beforeOff, compareOff, newestBy, newestOff}
 use Rattle.rules.specs.Due.{reasonsOf, reasonsOff}

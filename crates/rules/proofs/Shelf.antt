@@ -14,7 +14,7 @@ use Rattle.rules.specs.declared.Setup.{Setup}
 use Rattle.rules.specs.declared.Relation.{Relation}
 use Rattle.rules.specs.declared.Relation.the-variants.{Crossed}
 use Rattle.rules.specs.Setups.{permits}
-use Rattle.rules.specs.Model.{Held, before, compare, used, Value, says, relates, nothing, Answer, refusal, step}
+use Rattle.rules.specs.Model.{Held, before, compare, used, relates, nothing, Answer, refusal, step}
 use Rattle.rules.specs.Calls.{Book, Call, on, Turn, freshBook, ringOf, call}
 use Rattle.rules.specs.History.{Log, State, begin, after, logAfter, setupAfter}
 use Rattle.rules.specs.Round.{modulo, mapValue, roundBook, roundAnswer}

@@ -1,22 +1,21 @@
 -- Every stamp that the ring answers is that of an event of the history, come round, and stays so until the next accepted start.
 -- Assumes nothing.
 use mathlib.Core.Path.{_≡_, refl, ap, sym, _∙_, subst}
-use mathlib.Core.Bool.{Bool, true, false, not, false≢true}
+use mathlib.Core.Bool.{Bool, true, false, false≢true}
 use mathlib.Core.Option.{Option, none, some}
-use mathlib.Core.List.{List, [], _∷_, _++_}
+use mathlib.Core.List.{List, [], _∷_}
 use Prim.Native.Nat.{ℕ, zero, suc, _≤_, _<_}
 use native.Mathlib.Omega.{arith}
-use Rattle.tools.specs.Tables.{put, Each}
+use Rattle.tools.specs.Tables.{Each}
 use Rattle.tools.proofs.Tables.{put-same, put-other, some-is, none-some}
 use Rattle.ring.specs.Phases.{line}
 use Rattle.rules.specs.declared.Setup.{Setup}
 use Rattle.rules.specs.Setups.{permits}
 use Rattle.rules.specs.Model.{Row, Held, Act, local, reset, keep, drop, discard, show, send, receive, before, compare, write, Answer, byIn, rowIn, used, why, done, step, settle}
-use Rattle.rules.specs.Calls.{Book, Call, start, on, freshBook, ringOf, call}
+use Rattle.rules.specs.Calls.{Book, Call, start, on, call}
 use Rattle.rules.specs.Labels.{Label}
 use Rattle.rules.specs.Round.{modulo, mapHeld, mapValue, roundRow, roundBook}
-use Rattle.rules.specs.History.{Kind, Log, History, State, logged, adds, kept-if, none-yet, begin, next, after, logAfter, setupAfter}
-use Rattle.rules.specs.Runs.{left}
+use Rattle.rules.specs.History.{Kind, Log, State, logged, adds, kept-if, none-yet, begin, next, after, logAfter, setupAfter}
 use Rattle.rules.specs.Stamps.{labelOf, StampOf, slotOf, ownerAt, stampIn, stampGiven, eventOf, Ongoing, Answered}
 use Rattle.rules.proofs.Steps.{step-number}
 use Rattle.rules.proofs.Bounded.{no-show, no-write}

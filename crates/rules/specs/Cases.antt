@@ -8,11 +8,11 @@
 --   starred           the cases of calls, by their numbers; listing, its example; errors, the desks' errors
 --   Cases             the one statement: every case is answered as its lines say, whatever book it begins on
 use mathlib.Core.Path.{_≡_}
-use mathlib.Core.Bool.{Bool, true, false}
-use mathlib.Core.Option.{Option, none, some}
+use mathlib.Core.Bool.{Bool, false}
+use mathlib.Core.Option.{none, some}
 use mathlib.Core.List.{List, [], _∷_, _++_, map}
 use Prim.Native.Nat.{ℕ, zero, suc}
-use Rattle.ring.specs.Phases.{Pair, Gap, ring, later}
+use Rattle.ring.specs.Phases.{Pair, ring, later}
 use Rattle.rules.specs.declared.Setup.{Setup}
 use Rattle.rules.specs.declared.Relation.{Relation}
 use Rattle.rules.specs.declared.Relation.the-variants.{Before, Same, Concurrent}

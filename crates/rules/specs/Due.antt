@@ -41,26 +41,7 @@ use Rattle.rules.specs.Numbers.{
   number,
   given,
 }
-use Rattle.rules.specs.Model.{
-  Row,
-  Held,
-  Tables,
-  Act,
-  local,
-  reset,
-  keep,
-  drop,
-  discard,
-  show,
-  send,
-  receive,
-  before,
-  compare,
-  write,
-  used,
-  own,
-  reasons,
-}
+use Rattle.rules.specs.Model.{Held, Tables, Act, local, reset, keep, drop, discard, show, send, receive, before, compare, write, used, own, reasons}
 use Rattle.rules.specs.Calls.{Book, Call, start, on}
 use Rattle.rules.specs.Labels.{Label, reads}
 

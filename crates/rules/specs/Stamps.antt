@@ -15,32 +15,7 @@ use mathlib.Core.List.{List, [], _∷_, _++_}
 use Prim.Native.Nat.{ℕ, _<_}
 use Rattle.rules.specs.declared.Setup.{Setup}
 use Rattle.rules.specs.Setups.{permits}
-use Rattle.rules.specs.Model.{
-  Row,
-  Held,
-  Tables,
-  Act,
-  local,
-  reset,
-  keep,
-  drop,
-  discard,
-  show,
-  send,
-  receive,
-  before,
-  compare,
-  write,
-  Value,
-  nothing,
-  stamp,
-  sent,
-  slot,
-  says,
-  relates,
-  shows,
-  byIn,
-}
+use Rattle.rules.specs.Model.{Held, Tables, Act, local, reset, keep, drop, discard, show, send, receive, before, compare, write, Value, nothing, stamp, sent, slot, says, relates, shows, byIn}
 use Rattle.rules.specs.Calls.{Book, Call, start, on, ringOf, freshBook, call}
 use Rattle.rules.specs.Labels.{Label}
 use Rattle.rules.specs.Round.{roundRow}

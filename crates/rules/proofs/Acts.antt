@@ -1,0 +1,131 @@
+-- DEMAND 2 on books without bytes: what each accepted act leaves and answers, in the words of document 01, in any arithmetic.
+-- Assumes nothing.
+use mathlib.Core.Path.{_≡_, refl, ap, sym, _∙_}
+use mathlib.Core.Bool.{Bool, true, false, _&&_, _||_}
+use mathlib.Core.Option.{none, some}
+use Prim.Native.Nat.{ℕ, _+_}
+use lib.Dec.{eqb}
+use borrow.Author.Tests.{eq-eqb, ne-eqb}
+use Rattle.tools.proofs.Tests.{pick-true}
+use Rattle.tools.proofs.Tables.{put-same, put-other}
+use Rattle.ring.specs.Phases.{Phases, Gap, laterBy, lagGap, later}
+use Rattle.rules.specs.declared.Setup.{Setup}
+use Rattle.rules.specs.declared.Relation.the-variants.{Before, After, Same, Concurrent, Crossed}
+use Rattle.rules.specs.Numbers.{Name}
+use Rattle.rules.specs.Model.{Row, Held, Tables, Act, local, reset, keep, drop, discard, send, receive, stamp, sent, accepted, Result, own, freeMail, freeSlot, grown, merged, turned, near, sameBy, isBefore, relation, gapFrom, done, step, settle}
+use Rattle.rules.specs.Due.{Due}
+use Rattle.rules.proofs.Steps.{step-number}
+use Rattle.rules.proofs.Due.{table}
+
+module _ (Z : Phases) (X : Setup) (b : Tables) where
+  -- an act to which no row of the answer table is due is accepted
+  pub accepts : (c : Act) → ((w : Name) → Due Z X b c w → ⊥) → step Z X b c ≡ done Z X b c
+  unfolding step
+  accepts c free =
+      ap (λ n. settle n b (done Z X b c))
+      (sym (step-number Z X b c) ∙ table Z X b c .none .1 (λ k d. free (d .0) (d .2)))
+
+  -- Local at j: j's own clock grows by 1. Send: as local. The rest of its row stays.
+  pub grown-own : (j : ℕ) → grown b j j ≡ record { phase = own b j .phase; clock = own b j .clock + 1 }
+  grown-own j = put-same (b .seat j .row) j _
+
+  pub grown-other : (j k : ℕ) → (k ≡ j → ⊥) → grown b j k ≡ b .seat j .row k
+  grown-other j k ne = put-other (b .seat j .row) j _ k ne
+
+  -- Receive at j: its own clock grows by 1; for every other desk, the later of the two pairs is taken.
+  pub merged-own : (j : ℕ) (w : Row) → merged Z b j w j ≡ record { phase = own b j .phase; clock = own b j .clock + 1 }
+  merged-own j w = put-same (λ k. later Z (own b k .phase) (b .seat j .row k) (w k)) j _
+
+  pub merged-other : (j : ℕ) (w : Row) (k : ℕ) → (k ≡ j → ⊥) → merged Z b j w k ≡ later Z (own b k .phase) (b .seat j .row k) (w k)
+  merged-other j w k ne = put-other (λ k. later Z (own b k .phase) (b .seat j .row k) (w k)) j _ k ne
+
+  -- Reset at j: its own phase grows by 1 and its own clock becomes 0.
+  pub turned-own : (j : ℕ) → turned Z b j j ≡ record { phase = Z .next (own b j .phase); clock = 0 }
+  turned-own j = put-same (b .seat j .row) j _
+
+  pub turned-other : (j k : ℕ) → (k ≡ j → ⊥) → turned Z b j k ≡ b .seat j .row k
+  turned-other j k ne = put-other (b .seat j .row) j _ k ne
+
+  -- All four mark the seat started and answer a stamp, owner and row; the row stays in the seat, and no other seat changes.
+  abbrev Leaves : ℕ → Row → Tables → Type 0
+  Leaves j r t = (t .seat j ≡ record { started = true; row = r }) × ((k : ℕ) → (k ≡ j → ⊥) → t .seat k ≡ b .seat k)
+
+  abbrev result : Act → Result
+  result c = done Z X b c
+
+  pub local-leaves : (j : ℕ) → (result (local j) .answer ≡ accepted (stamp j (grown b j))) × Leaves j (grown b j) (result (local j) .tables)
+  unfolding done
+  local-leaves j = (refl, (put-same (b .seat) j _, put-other (b .seat) j _))
+
+  pub send-leaves : (j k : ℕ)
+      → (result (send j k) .answer ≡ accepted (sent (freeMail b) j (grown b j))) × Leaves j (grown b j) (result (send j k) .tables)
+  unfolding done
+  send-leaves j k = (refl, (put-same (b .seat) j _, put-other (b .seat) j _))
+
+  pub receive-leaves : (j p : ℕ) (w : Held) → b .mail p ≡ some w
+      → (result (receive j p) .answer ≡ accepted (stamp j (merged Z b j (w .row)))) × Leaves j (merged Z b j (w .row)) (result (receive j p) .tables)
+  unfolding done
+  receive-leaves j p w e = rw e (refl, (put-same (b .seat) j _, put-other (b .seat) j _))
+
+  pub reset-leaves : (j : ℕ) → (result (reset j) .answer ≡ accepted (stamp j (turned Z b j))) × Leaves j (turned Z b j) (result (reset j) .tables)
+  unfolding done
+  reset-leaves j = (refl, (put-same (b .seat) j _, put-other (b .seat) j _))
+
+  -- Send: j's row goes into the lowest free mail place.
+  pub sent-waits : (j k : ℕ) → result (send j k) .tables .mail (freeMail b) ≡ some record { by = j; to = k; row = grown b j }
+  unfolding done
+  sent-waits j k = put-same (b .mail) (freeMail b) _
+
+  -- Receive: the place becomes free, and no other.
+  pub received-free : (j p : ℕ) → result (receive j p) .tables .mail p ≡ none
+  unfolding done
+  received-free j p = put-same (b .mail) p none
+
+  pub received-other : (j p q : ℕ) → (q ≡ p → ⊥) → result (receive j p) .tables .mail q ≡ b .mail q
+  unfolding done
+  received-other j p q ne = put-other (b .mail) p none q ne
+
+  -- Keep at j copies j's present row to the lowest free slot. Drop and discard free a slot or a place.
+  pub kept-waits : (j : ℕ) → result (keep j) .tables .shelf (freeSlot b) ≡ some record { by = j; to = 0; row = b .seat j .row }
+  unfolding done
+  kept-waits j = put-same (b .shelf) (freeSlot b) _
+
+  pub dropped-free : (s : ℕ) → result (drop s) .tables .shelf s ≡ none
+  unfolding done
+  dropped-free s = put-same (b .shelf) s none
+
+  pub discarded-free : (p : ℕ) → result (discard p) .tables .mail p ≡ none
+  unfolding done
+  discarded-free p = put-same (b .mail) p none
+
+  -- The difference between two used slots is lag of e's entry minus lag of f's entry, at e's desk.
+  pub gap-is : (s t : ℕ) (e f : Held) → b .shelf s ≡ some e → b .shelf t ≡ some f
+      → gapFrom Z X b s t ≡ near X (lagGap Z (own b (e .by) .phase) (e .row (e .by)) (f .row (e .by)))
+  gap-is s t e f p q = rw (p, q)
+
+-- Before: for one owner, yes when f's pair is strictly later; for different owners, when it is e's own pair or later.
+pub one-owner : (d : Gap) (j : ℕ) (e f : Row) → isBefore d j j e f ≡ laterBy d (e j .clock) (f j .clock)
+one-owner d j e f = rw (eq-eqb j j refl, mathlib.Core.Bool.or-false)
+
+pub two-owners : (d : Gap) (j k : ℕ) (e f : Row) → (j ≡ k → ⊥)
+    → isBefore d j k e f ≡ (laterBy d (e j .clock) (f j .clock) || sameBy d (e j .clock) (f j .clock))
+two-owners d j k e f ne = rw (ne-eqb j k ne)
+
+-- Compare asks both ways. Same means the same owner, d of 0 and equal clocks; both ways yes is crossed.
+module _ (d d′ : Gap) (j k : ℕ) (e f : Row) where
+  pub says-same : j ≡ k → sameBy d (e j .clock) (f j .clock) ≡ true → relation d d′ j k e f ≡ Same
+  says-same q s =
+      pick-true (eqb j k && sameBy d (e j .clock) (f j .clock)) Same _ (rw (eq-eqb j k q, s))
+
+  module _ (other : (eqb j k && sameBy d (e j .clock) (f j .clock)) ≡ false) where
+    pub says-before : isBefore d j k e f ≡ true → isBefore d′ k j f e ≡ false → relation d d′ j k e f ≡ Before
+    says-before p q = rw (other, p, q)
+
+    pub says-after : isBefore d j k e f ≡ false → isBefore d′ k j f e ≡ true → relation d d′ j k e f ≡ After
+    says-after p q = rw (other, p, q)
+
+    pub says-concurrent : isBefore d j k e f ≡ false → isBefore d′ k j f e ≡ false → relation d d′ j k e f ≡ Concurrent
+    says-concurrent p q = rw (other, p, q)
+
+    pub says-crossed : isBefore d j k e f ≡ true → isBefore d′ k j f e ≡ true → relation d d′ j k e f ≡ Crossed
+    says-crossed p q = rw (other, p, q)
