@@ -6,7 +6,7 @@
 --   Phases             an arithmetic of phases: a lag and a next
 --   ring P, line       the two
 --   Gap                a difference of phases, up minus down
---   laterBy d ce cf    f is later than e, by the difference d from e to f and their clocks: d above 0, or 0 and the larger clock
+--   laterBy d ce cf    f is later than e, by the difference d from e to f: d above 0, or 0 and the larger clock
 --   lagGap Z own e f   the difference from pair e to pair f of a desk whose own phase is own: lag of e minus lag of f
 --   isLater Z own f e  f is later than e: a smaller lag, and at equal lag the larger clock
 --   later Z own e f    the later of the two, e unless f is later

@@ -63,11 +63,13 @@ module _ (Z : Phases) (X : Setup) (b : Tables) where
   send-leaves j k = (refl, (put-same (b .seat) j _, put-other (b .seat) j _))
 
   pub receive-leaves : (j p : ℕ) (w : Held) → b .mail p ≡ some w
-      → (result (receive j p) .answer ≡ accepted (stamp j (merged Z b j (w .row)))) × Leaves j (merged Z b j (w .row)) (result (receive j p) .tables)
+      → (result (receive j p) .answer ≡ accepted (stamp j (merged Z b j (w .row))))
+      × Leaves j (merged Z b j (w .row)) (result (receive j p) .tables)
   unfolding done
   receive-leaves j p w e = rw e (refl, (put-same (b .seat) j _, put-other (b .seat) j _))
 
-  pub reset-leaves : (j : ℕ) → (result (reset j) .answer ≡ accepted (stamp j (turned Z b j))) × Leaves j (turned Z b j) (result (reset j) .tables)
+  pub reset-leaves : (j : ℕ)
+      → (result (reset j) .answer ≡ accepted (stamp j (turned Z b j))) × Leaves j (turned Z b j) (result (reset j) .tables)
   unfolding done
   reset-leaves j = (refl, (put-same (b .seat) j _, put-other (b .seat) j _))
 

@@ -104,7 +104,8 @@ module _ (s : State) (w : Faithful s) (i j : ℕ) (e f : Held)
       told : BeforeIs X h x y (call ringOf (roundBook (s .book)) (on (before i j)) .answer)
       told = state-before s w i j (ap used pe) (ap used pf)
 
-      go : Dec (InReach X h x y) → beforeOff X (some (labelOf e)) (some (labelOf f)) ≡ call ringOf (roundBook (s .book)) (on (before i j)) .answer
+      go : Dec (InReach X h x y)
+          → beforeOff X (some (labelOf e)) (some (labelOf f)) ≡ call ringOf (roundBook (s .book)) (on (before i j)) .answer
       go (no n) = absurd (let y = told .out .1 n in omega arith)
       go (yes r) =
           one-before h x y _ _

@@ -16,7 +16,7 @@ use Rattle.ring.specs.Phases.{Phases, Gap}
 use Rattle.rules.specs.declared.Setup.{Setup}
 use Rattle.rules.specs.Numbers.{Name, NoDesk, SameDesk, NoPlace, NotYours, NoEvent, PhaseFull, MailFull, ShelfFull, SeatBehind, MailBehind, ShelfBehind, NoRoom, OutOfReach, number}
 use Rattle.rules.specs.Model.{Held, Tables, Act, local, reset, keep, drop, discard, show, send, receive, before, compare, write, step, used, toIn, own, atLimit, lags, near, isOut, gapHeld, reasons}
-use Rattle.rules.specs.Due.{at-local, at-send, at-sent, at-receive, at-reset, at-keep, by-local, by-send, by-receive, of-receive, of-discard, OfSlot, of-drop, of-before, of-before′, of-compare, of-compare′, of-show, of-write, Asks, asks-before, asks-compare, asks-back, Gone, Beyond, Due, no-desk, same-desk, no-mail, no-slot, not-yours, no-event, phase-full, mail-full, shelf-full, seat-behind, mail-behind, shelf-behind, no-room, out-of-reach, DueNumber}
+use Rattle.rules.specs.Due.{at-local, at-send, at-sent, at-receive, at-reset, at-keep, by-local, by-send, by-receive, of-receive, of-discard, OfSlot, of-drop, of-before, of-before′, of-compare, of-compare′, of-show, of-write, Asks, asks-before, asks-compare, asks-back, Gone, lagIn, Beyond, Due, no-desk, same-desk, no-mail, no-slot, not-yours, no-event, phase-full, mail-full, shelf-full, seat-behind, mail-behind, shelf-behind, no-room, out-of-reach, DueNumber}
 use Rattle.rules.proofs.Reasons.{act-number}
 
 -- each test of the list, and what its row says
@@ -68,25 +68,22 @@ is-full f t p l = not-off (used (f p)) (lowest-full 32 (λ p. not (used (f p))) 
 
 module _ (Z : Phases) (X : Setup) (b : Tables) where
   is-behind : (j B : ℕ) (f : ℕ → Option Held) → any 32 (λ p. lags Z b j B (f p)) ≡ true
-      → (p : ℕ) × (w : Held) × (p < 32) × (f p ≡ some w) × (Z .lag (own b j .phase) (w .row j .phase) ≡ B)
+      → (p : ℕ) × (w : Held) × (p < 32) × (f p ≡ some w) × (lagIn Z b j w ≡ B)
   is-behind j B f t = let s = any-true 32 (λ p. lags Z b j B (f p)) t in go (s .0) (s .1) (f (s .0)) refl (s .2)
     where
       go : (p : ℕ) → p < 32 → (o : Option Held) → f p ≡ o → lags Z b j B o ≡ true
-          → (p : ℕ) × (w : Held) × (p < 32) × (f p ≡ some w) × (Z .lag (own b j .phase) (w .row j .phase) ≡ B)
+          → (p : ℕ) × (w : Held) × (p < 32) × (f p ≡ some w) × (lagIn Z b j w ≡ B)
       go p l none e t = absurd (false≢true t)
       go p l (some w) e t = (p, w, l, e, eqb-true _ _ t)
 
   behind : (j B : ℕ) (f : ℕ → Option Held) (p : ℕ) (w : Held) → p < 32 → f p ≡ some w
-      → Z .lag (own b j .phase) (w .row j .phase) ≡ B → any 32 (λ p. lags Z b j B (f p)) ≡ true
+      → lagIn Z b j w ≡ B → any 32 (λ p. lags Z b j B (f p)) ≡ true
   behind j B f p w l e q =
-      any-at 32 (λ p. lags Z b j B (f p)) p l (ap (lags Z b j B) e ∙ eq-eqb (Z .lag (own b j .phase) (w .row j .phase)) B q)
+      any-at 32 (λ p. lags Z b j B (f p)) p l (ap (lags Z b j B) e ∙ eq-eqb (lagIn Z b j w) B q)
 
-  abbrev lagAt : ℕ → Held → ℕ
-  lagAt j w = Z .lag (own b j .phase) (w .row j .phase)
-
-  out-test : (s t : ℕ) (e f : Held) → b .shelf s ≡ some e → b .shelf t ≡ some f → Beyond X (lagAt (e .by) e) (lagAt (e .by) f)
+  out-test : (s t : ℕ) (e f : Held) → b .shelf s ≡ some e → b .shelf t ≡ some f → Beyond X (lagIn Z b (e .by) e) (lagIn Z b (e .by) f)
       → isOut (gapHeld Z X b (b .shelf s) (b .shelf t)) ≡ true
-  out-test s t e f p q g = rw (p, q) (beyond-test X (record { up = lagAt (e .by) e; down = lagAt (e .by) f }) g)
+  out-test s t e f p q g = rw (p, q) (beyond-test X (record { up = lagIn Z b (e .by) e; down = lagIn Z b (e .by) f }) g)
 
   is-at-limit : (j : ℕ) → atLimit X b j ≡ true → X .clocks ≤ own b j .clock + 1
   is-at-limit j t = is-least (own b j .clock + 1) (X .clocks) t
@@ -108,9 +105,11 @@ module _ (Z : Phases) (X : Setup) (b : Tables) where
   listed (no-mail (of-discard {p = p}) g) = inl (refl, gone-test p (b .mail p) g)
   listed (no-slot (of-drop {s = s}) g) = inl (refl, gone-test s (b .shelf s) g)
   listed (no-slot (of-before {s = s}) g) = inl (refl, or-left _ _ (gone-test s (b .shelf s) g))
-  listed (no-slot (of-before′ {s = s} {t = t}) g) = inl (refl, or-right (not (used (b .shelf s) && ltb s 32)) _ (gone-test t (b .shelf t) g))
+  listed (no-slot (of-before′ {s = s} {t = t}) g) =
+      inl (refl, or-right (not (used (b .shelf s) && ltb s 32)) _ (gone-test t (b .shelf t) g))
   listed (no-slot (of-compare {s = s}) g) = inl (refl, or-left _ _ (gone-test s (b .shelf s) g))
-  listed (no-slot (of-compare′ {s = s} {t = t}) g) = inl (refl, or-right (not (used (b .shelf s) && ltb s 32)) _ (gone-test t (b .shelf t) g))
+  listed (no-slot (of-compare′ {s = s} {t = t}) g) =
+      inl (refl, or-right (not (used (b .shelf s) && ltb s 32)) _ (gone-test t (b .shelf t) g))
   listed (no-slot (of-show {s = s}) g) = inl (refl, gone-test s (b .shelf s) g)
   listed (no-slot (of-write {s = s}) g) = inl (refl, gone-test s (b .shelf s) g)
   listed (not-yours {j = j} {p = p} {w = w} e ne) = inr (inr (inl (refl, rw e (ap not (ne-eqb (w .to) j ne)))))
@@ -184,7 +183,8 @@ module _ (Z : Phases) (X : Setup) (b : Tables) where
   told (reset j) k (inl (q, h)) = due NoDesk q (no-desk at-reset (is-least _ _ h))
   told (reset j) k (inr (inl (q, h))) =
       let s = any-true (X .desks) _ h in
-      due SeatBehind q (seat-behind (s .1) (eqb-false _ _ (not-true _ (and-true-l _ _ (s .2)))) (eqb-true _ _ (and-true-r (not (eqb (s .0) j)) _ (s .2))))
+      due SeatBehind q
+      (seat-behind (s .1) (eqb-false _ _ (not-true _ (and-true-l _ _ (s .2)))) (eqb-true _ _ (and-true-r (not (eqb (s .0) j)) _ (s .2))))
   told (reset j) k (inr (inr (inl (q, h)))) =
       let s = is-behind j (2 * X .seatLag) (b .mail) h in due MailBehind q (mail-behind (s .2) (s .3) (s .4))
   told (reset j) k (inr (inr (inr (inl (q, h))))) =

@@ -93,4 +93,5 @@ key-earlier X p q cp cq l =
   where
     go : (t : Bool) → ltb (p .phase) (q .phase) ≡ t → (t || (eqb (p .phase) (q .phase) && ltb (p .clock) (q .clock))) ≡ true → Earlier p q
     go true e w = inl (ltb-true _ _ e)
-    go false e w = inr (eqb-true _ _ (and-true-l _ _ w), ltb-true _ _ (and-true-r (eqb (p .phase) (q .phase)) (ltb (p .clock) (q .clock)) w))
+    go false e w =
+        inr (eqb-true _ _ (and-true-l _ _ w), ltb-true _ _ (and-true-r (eqb (p .phase) (q .phase)) (ltb (p .clock) (q .clock)) w))

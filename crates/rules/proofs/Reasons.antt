@@ -1,7 +1,7 @@
 -- REASONS, for every call: a number is answered exactly when its reason holds and no smaller one does, 0 exactly when none
 -- does; a refusal answers its number only, and leaves the book as it was.
 -- Assumes nothing.
-use mathlib.Core.Path.{_≡_, refl, ap}
+use mathlib.Core.Path.{_≡_, refl, ap, sym, subst}
 use mathlib.Core.Bool.{true, _||_}
 use mathlib.Core.Option.{Option}
 use Prim.Native.Nat.{ℕ, zero, suc}
@@ -34,15 +34,21 @@ module _ (Z : Phases) (X : Setup) (b : Tables) where
   act-number c = rw (step-number Z X b c) (first-smallest (reasons Z X b c) (rising c))
 
 module _ (Z : Setup → Phases) (b : Book) where
-  settled-number : (n : ℕ) (v : Value) (u : Book) → settled n b (record { answer = accepted v; book = u }) .answer .number ≡ n
-  settled-number zero v u = refl
-  settled-number (suc n) v u = refl
+  -- a start is settled by its number
+  settled-number : (n : ℕ) (t : Turn) → t .answer .number ≡ 0 → settled n b t .answer .number ≡ n
+  settled-number zero t z = z
+  settled-number (suc n) t z = refl
+
+  settled-only : (n : ℕ) (t : Turn) → t .answer .number ≡ 0 → (settled n b t .answer .number ≡ 0 → ⊥)
+      → settled n b t ≡ record { answer = refusal (settled n b t .answer .number); book = b }
+  settled-only zero t z ne = absurd (ne z)
+  settled-only (suc n) t z ne = refl
 
   -- THE PROMISE, for start and the acts
   pub number-due : (c : Call) → Smallest (Holds (reasonsOf Z b c)) (call Z b c .answer .number)
   unfolding call
   number-due (start X) =
-      rw (settled-number (first (reasonsOf Z b (start X))) nothing (freshBook X))
+      subst (Smallest (Holds (reasonsOf Z b (start X)))) (sym (settled-number (first (reasonsOf Z b (start X))) _ refl))
       (first-smallest (reasonsOf Z b (start X)) refl)
   number-due (on c) = act-number (Z (b .setup)) (b .setup) (b .tables) c
 
@@ -50,14 +56,7 @@ module _ (Z : Setup → Phases) (b : Book) where
   pub refused : (c : Call) → (call Z b c .answer .number ≡ 0 → ⊥)
       → call Z b c ≡ record { answer = refusal (call Z b c .answer .number); book = b }
   unfolding call
-  refused (start X) ne = go (first (reasonsOf Z b (start X))) ne
-    where
-      turn : ℕ → Turn
-      turn n = settled n b (record { answer = accepted nothing; book = freshBook X })
-
-      go : (n : ℕ) → (turn n .answer .number ≡ 0 → ⊥) → turn n ≡ record { answer = refusal (turn n .answer .number); book = b }
-      go zero ne = absurd (ne refl)
-      go (suc n) ne = refl
+  refused (start X) ne = settled-only (first (reasonsOf Z b (start X))) _ refl ne
   refused (on c) ne = ap (turnOf (b .setup)) (step-only (Z (b .setup)) (b .setup) (b .tables) c ne)
 
 -- Off the book, given a setup and two stamp records as they read.

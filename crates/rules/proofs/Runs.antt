@@ -36,7 +36,8 @@ unfolding next call
 faithful-next s w (start X) = go (permits X) refl
   where
     go : (t : Bool) → permits X ≡ t
-        → let r = startTurn (s .book) X t in Faithful (record { book = r .book; history = kept-if (r .answer .number) (s .history) none-yet })
+        → let r = startTurn (s .book) X t in
+        Faithful (record { book = r .book; history = kept-if (r .answer .number) (s .history) none-yet })
     go true e = faithful-begin X e
     go false e = w
 faithful-next s w (on c) =

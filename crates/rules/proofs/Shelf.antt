@@ -91,7 +91,8 @@ compare-words X h x y a only w r v = go (both-dec (in-reach? X h x y) (in-reach?
 
 -- after any calls from a fresh book on
 module _ (X : Setup) (fair : permits X ≡ true) (cs : List Call) (i j : ℕ)
-    (ui : used (left ringOf (freshBook X) cs .tables .shelf i) ≡ true) (uj : used (left ringOf (freshBook X) cs .tables .shelf j) ≡ true) where
+    (ui : used (left ringOf (freshBook X) cs .tables .shelf i) ≡ true)
+    (uj : used (left ringOf (freshBook X) cs .tables .shelf j) ≡ true) where
   abbrev behind : ℕ → ℕ
   behind = after (begin X) cs .history .kept
 

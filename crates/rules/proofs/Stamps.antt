@@ -11,11 +11,11 @@ use Rattle.tools.proofs.Tables.{put-same, put-other, some-is, none-some}
 use Rattle.ring.specs.Phases.{line}
 use Rattle.rules.specs.declared.Setup.{Setup}
 use Rattle.rules.specs.Setups.{permits}
-use Rattle.rules.specs.Model.{Row, Held, Act, local, reset, keep, drop, discard, show, send, receive, before, compare, write, Answer, byIn, rowIn, used, why, done, step, settle}
+use Rattle.rules.specs.Model.{Row, Held, Act, local, reset, keep, drop, discard, show, send, receive, before, compare, write, Value, Answer, byIn, rowIn, used, why, done, step, settle}
 use Rattle.rules.specs.Calls.{Book, Call, start, on, call}
 use Rattle.rules.specs.Labels.{Label}
 use Rattle.rules.specs.Round.{modulo, mapHeld, mapValue, roundRow, roundBook}
-use Rattle.rules.specs.History.{Kind, Log, State, logged, adds, kept-if, none-yet, begin, next, after, logAfter, setupAfter}
+use Rattle.rules.specs.History.{Kind, Log, History, State, logged, adds, kept-if, none-yet, begin, next, after, logAfter, setupAfter}
 use Rattle.rules.specs.Stamps.{labelOf, StampOf, slotOf, ownerAt, stampIn, stampGiven, eventOf, Ongoing, Answered}
 use Rattle.rules.proofs.Steps.{step-number}
 use Rattle.rules.proofs.Bounded.{no-show, no-write}
@@ -43,8 +43,15 @@ one-more h j w r =
 abbrev now : State → Setup
 now s = s .book .setup
 
+-- the history that an accepted act makes, and the stamp in a value of the line, come round
+abbrev added : State → Act → History
+added s c = adds (s .history) (s .book .tables) c
+
+abbrev roundStamp : State → Act → Value → Option Label
+roundStamp s c v = stampIn (ownerAt (roundBook (s .book) .tables) (slotOf c)) (mapValue (modulo (now s .phases)) v)
+
 module _ (s : State) where
-  adds-on : (c : Act) → Onward (s .history .log) (adds (s .history) (s .book .tables) c .log)
+  adds-on : (c : Act) → Onward (s .history .log) (added s c .log)
   unfolding adds
   adds-on (local j) = one-more (s .history .log) j _ _
   adds-on (send j k) = one-more (s .history .log) j _ _
@@ -58,15 +65,15 @@ module _ (s : State) where
   adds-on (show t) = same-log (s .history .log)
   adds-on (write t room) = same-log (s .history .log)
 
-  next-history : (c : Act) → next s (on c) .history ≡ kept-if (why line (now s) (s .book .tables) c) (s .history) (adds (s .history) (s .book .tables) c)
+  next-history : (c : Act) → next s (on c) .history ≡ kept-if (why line (now s) (s .book .tables) c) (s .history) (added s c)
   unfolding next call
   next-history c =
-      ap (λ n. kept-if n (s .history) (adds (s .history) (s .book .tables) c)) (step-number line (now s) (s .book .tables) c)
+      ap (λ n. kept-if n (s .history) (added s c)) (step-number line (now s) (s .book .tables) c)
 
   next-on : (c : Act) → Onward (s .history .log) (next s (on c) .history .log)
   next-on c = rw (next-history c) (go (why line (now s) (s .book .tables) c))
     where
-      go : (n : ℕ) → Onward (s .history .log) (kept-if n (s .history) (adds (s .history) (s .book .tables) c) .log)
+      go : (n : ℕ) → Onward (s .history .log) (kept-if n (s .history) (added s c) .log)
       go zero = adds-on c
       go (suc n) = same-log (s .history .log)
 
@@ -141,11 +148,20 @@ module _ (s : State) (w : Faithful s) where
       go : (o : Option Held) → Each (Behind (s .history .log) (s .history .kept i)) o → mapHeld (modulo (now s .phases)) o ≡ some m
           → StampIn s (s .history .kept i) (labelOf m)
       go none n q = absurd (none-some q)
-      go (some v) n q = subst (λ (m : Held). StampIn s (s .history .kept i) (labelOf m)) (some-is q) (held-stamp (now s) (s .history .log) _ (some v) refl n)
+      go (some v) n q =
+          subst (λ (m : Held). StampIn s (s .history .kept i) (labelOf m)) (some-is q)
+          (held-stamp (now s) (s .history .log) _ (some v) refl n)
+
+  abbrev slot-now : ℕ → Option Held
+  slot-now t = s .book .tables .shelf t
+
+  kept-stamp : (t : ℕ) → used (slot-now t) ≡ true
+      → StampIn s (s .history .kept t) (record { owner = byIn (slot-now t); row = roundRow (now s .phases) (rowIn (slot-now t)) })
+  kept-stamp t u = held-stamp (now s) (s .history .log) (s .history .kept t) (slot-now t) u (w .good .shelf t)
 
   done-stamp : (c : Act) → why line (now s) (s .book .tables) c ≡ 0 → (e : Label)
-      → stampIn (ownerAt (roundBook (s .book) .tables) (slotOf c)) (mapValue (modulo (now s .phases)) (done line (now s) (s .book .tables) c .answer .value)) ≡ some e
-      → StampOf (now s) (adds (s .history) (s .book .tables) c .log) (eventOf (s .history) c) e
+      → roundStamp s c (done line (now s) (s .book .tables) c .answer .value) ≡ some e
+      → StampOf (now s) (added s c .log) (eventOf (s .history) c) e
   unfolding done adds
   done-stamp (local j) z e q = event-stamp (now s) (s .history .log) j _ _ e q
   done-stamp (send j k) z e q = event-stamp (now s) (s .history .log) j _ _ e q
@@ -158,22 +174,21 @@ module _ (s : State) (w : Faithful s) where
   done-stamp (compare t u) z e q = absurd (none-some q)
   done-stamp (show t) z e q =
       subst (StampIn s (s .history .kept t))
-      (some-is ((λ i. some record { owner = by-round (now s .phases) (s .book .tables .shelf t) i; row = roundRow (now s .phases) (rowIn (s .book .tables .shelf t)) }) ∙ q))
-      (held-stamp (now s) (s .history .log) (s .history .kept t) (s .book .tables .shelf t) (no-show line (now s) (s .book .tables) t z .0) (w .good .shelf t))
+      (some-is
+      ((λ i. some record { owner = by-round (now s .phases) (slot-now t) i; row = roundRow (now s .phases) (rowIn (slot-now t)) }) ∙ q))
+      (kept-stamp t (no-show line (now s) (s .book .tables) t z .0))
   done-stamp (write t room) z e q =
-      subst (StampIn s (s .history .kept t)) (some-is q)
-      (held-stamp (now s) (s .history .log) (s .history .kept t) (s .book .tables .shelf t) (no-write line (now s) (s .book .tables) t room z .0) (w .good .shelf t))
+      subst (StampIn s (s .history .kept t)) (some-is q) (kept-stamp t (no-write line (now s) (s .book .tables) t room z .0))
 
   step-stamp : (c : Act) (e : Label)
-      → stampIn (ownerAt (roundBook (s .book) .tables) (slotOf c)) (mapValue (modulo (now s .phases)) (step line (now s) (s .book .tables) c .answer .value)) ≡ some e
-      → StampOf (now s) (kept-if (why line (now s) (s .book .tables) c) (s .history) (adds (s .history) (s .book .tables) c) .log) (eventOf (s .history) c) e
+      → roundStamp s c (step line (now s) (s .book .tables) c .answer .value) ≡ some e
+      → StampOf (now s) (kept-if (why line (now s) (s .book .tables) c) (s .history) (added s c) .log) (eventOf (s .history) c) e
   unfolding step
   step-stamp c e = go (why line (now s) (s .book .tables) c) refl
     where
       go : (n : ℕ) → why line (now s) (s .book .tables) c ≡ n
-          → stampIn (ownerAt (roundBook (s .book) .tables) (slotOf c))
-          (mapValue (modulo (now s .phases)) (settle n (s .book .tables) (done line (now s) (s .book .tables) c) .answer .value)) ≡ some e
-          → StampOf (now s) (kept-if n (s .history) (adds (s .history) (s .book .tables) c) .log) (eventOf (s .history) c) e
+          → roundStamp s c (settle n (s .book .tables) (done line (now s) (s .book .tables) c) .answer .value) ≡ some e
+          → StampOf (now s) (kept-if n (s .history) (added s c) .log) (eventOf (s .history) c) e
       go zero z q = done-stamp c z e q
       go (suc n) z q = absurd (none-some q)
 

@@ -30,7 +30,8 @@ module _ (Z : Phases) (X : Setup) (b : Tables) (c : Act) where
       go (suc n) = refl
 
   -- a refusal is its number only, and the tables as they were
-  pub step-only : (step Z X b c .answer .number ≡ 0 → ⊥) → step Z X b c ≡ record { answer = refusal (step Z X b c .answer .number); tables = b }
+  pub step-only : (step Z X b c .answer .number ≡ 0 → ⊥)
+      → step Z X b c ≡ record { answer = refusal (step Z X b c .answer .number); tables = b }
   unfolding step
   step-only ne = go (why Z X b c) refl
     where

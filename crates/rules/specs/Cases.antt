@@ -6,13 +6,14 @@
 --   Case              calls one after another, and the lines that answer them
 --   lines b c         what the ring answers to the calls of the case c, from the book b on
 --   starred           the cases of calls, by their numbers; listing, its example; errors, the desks' errors
+--   all               all of these
 --   Cases             the one statement: every case is answered as its lines say, whatever book it begins on
 use mathlib.Core.Path.{_≡_}
 use mathlib.Core.Bool.{Bool, false}
-use mathlib.Core.Option.{none, some}
+use mathlib.Core.Option.{Option, none, some}
 use mathlib.Core.List.{List, [], _∷_, _++_, map}
 use Prim.Native.Nat.{ℕ, zero, suc}
-use Rattle.ring.specs.Phases.{Pair, ring, later}
+use Rattle.ring.specs.Phases.{Pair, Gap, ring, later}
 use Rattle.rules.specs.declared.Setup.{Setup}
 use Rattle.rules.specs.declared.Relation.{Relation}
 use Rattle.rules.specs.declared.Relation.the-variants.{Before, Same, Concurrent}
@@ -231,20 +232,26 @@ errors =
     ∷ [])
     ∷ []
 
+abbrev pub all : List Case
+all = starred ++ listing ∷ errors
+
 -- of phases 4 and 0, on a ring of 5, at own phase 0 and at own phase 4
 abbrev pub laterOf : ℕ → List Pair
 laterOf own = later (ring 5) own (pair 4 0) (pair 0 0) ∷ later (ring 5) own (pair 0 0) (pair 4 0) ∷ []
+
+abbrev pub gap : ℕ → ℕ → Option Gap
+gap up down = some record { up = up; down = down }
 
 -- a stamp of desk 0 with the phase v
 abbrev pub at : ℕ → Label
 at v = record { owner = 0; row = λ k. pair v 0 }
 
 pub record Cases : Type 0 where
-  pub runs : (b : Book) → map (answers b) (starred ++ listing ∷ errors) ≡ map (λ (c : Case). c .lines) (starred ++ listing ∷ errors)
+  pub runs : (b : Book) → map (answers b) all ≡ map (λ (c : Case). c .lines) all
   -- 9
   pub newest : (laterOf 0 ≡ (pair 0 0 ∷ pair 0 0 ∷ [])) × (laterOf 4 ≡ (pair 4 0 ∷ pair 4 0 ∷ []))
   -- 10: r of 0, 1, 4, 2, 3
   pub reach : map (λ v. gapOff X 0 (at 3 .row) (at v .row)) (3 ∷ 4 ∷ 2 ∷ 0 ∷ 1 ∷ [])
-      ≡ (some record { up = 0; down = 0 } ∷ some record { up = 1; down = 0 } ∷ some record { up = 0; down = 1 } ∷ none ∷ none ∷ [])
+      ≡ (gap 0 0 ∷ gap 1 0 ∷ gap 0 1 ∷ none ∷ none ∷ [])
   pub numbers : map (λ v. beforeOff X (some (at 3)) (some (at v)) .number) (3 ∷ 4 ∷ 2 ∷ 0 ∷ 1 ∷ [])
       ≡ (0 ∷ 0 ∷ 0 ∷ number OutOfReach ∷ number OutOfReach ∷ [])

@@ -6,11 +6,12 @@
 --   OfSlot c s          c names the shelf slot s
 --   Asks c s t          c asks about the stamp in slot s and the one in slot t, in this order
 --   Gone p o            the place p is above 31, or free
+--   lagIn Z b j w       the lag of the entry for the desk j in what is held
 --   Beyond X up down    the difference up minus down lies outside -(m-1)..n-1
 --   Due Z X b c w       the name w is due to the act c
 --   DueNumber Z X b c n   a name of the number n is due
 --   reasonsOf Z b c     the reasons to refuse the call c
---   reasonsOff X e f out  the reasons to refuse before, compare and newest off the book; out: the question is out of reach
+--   reasonsOff X e f out  the reasons to refuse before, compare and newest off the book; out: beyond reach
 use mathlib.Core.Path.{_≡_}
 use mathlib.Core.Bool.{Bool, true, false, not, _||_}
 use mathlib.Core.Option.{Option, none, some}
@@ -41,7 +42,25 @@ use Rattle.rules.specs.Numbers.{
   number,
   given,
 }
-use Rattle.rules.specs.Model.{Held, Tables, Act, local, reset, keep, drop, discard, show, send, receive, before, compare, write, used, own, reasons}
+use Rattle.rules.specs.Model.{
+  Held,
+  Tables,
+  Act,
+  local,
+  reset,
+  keep,
+  drop,
+  discard,
+  show,
+  send,
+  receive,
+  before,
+  compare,
+  write,
+  used,
+  own,
+  reasons,
+}
 use Rattle.rules.specs.Calls.{Book, Call, start, on}
 use Rattle.rules.specs.Labels.{Label, reads}
 
@@ -79,6 +98,9 @@ pub data Asks : Act → ℕ → ℕ → Type 0 where
 abbrev pub Gone : ℕ → Option Held → Type 0
 Gone p o = (32 ≤ p) ⊎ (o ≡ none)
 
+abbrev pub lagIn : Phases → Tables → ℕ → Held → ℕ
+lagIn Z b j w = Z .lag (own b j .phase) (w .row j .phase)
+
 abbrev pub Beyond : Setup → ℕ → ℕ → Type 0
 Beyond X up down = (down + X .ahead ≤ up) ⊎ (up + X .back ≤ down)
 
@@ -105,15 +127,15 @@ pub data Due (Z : Phases) (X : Setup) (b : Tables) : Act → Name → Type 0 whe
       → Z .lag (own b j .phase) (b .seat k .row j .phase) ≡ X .seatLag → Due Z X b (reset j) SeatBehind
   -- reset at j; a waiting row's entry for j lags 2M
   mail-behind : {j p : ℕ} {w : Held} → p < 32 → b .mail p ≡ some w
-      → Z .lag (own b j .phase) (w .row j .phase) ≡ 2 * X .seatLag → Due Z X b (reset j) MailBehind
+      → lagIn Z b j w ≡ 2 * X .seatLag → Due Z X b (reset j) MailBehind
   -- reset at j; a kept row's entry for j lags A
   shelf-behind : {j s : ℕ} {w : Held} → s < 32 → b .shelf s ≡ some w
-      → Z .lag (own b j .phase) (w .row j .phase) ≡ X .shelfLag → Due Z X b (reset j) ShelfBehind
+      → lagIn Z b j w ≡ X .shelfLag → Due Z X b (reset j) ShelfBehind
   -- write into fewer than 20 bytes
   no-room : {s room : ℕ} → room < 20 → Due Z X b (write s room) NoRoom
   -- comparison beyond reach: the difference is lag of e's entry minus lag of f's entry, at the desk of e
   out-of-reach : {c : Act} {s t : ℕ} {e f : Held} → Asks c s t → b .shelf s ≡ some e → b .shelf t ≡ some f
-      → Beyond X (Z .lag (own b (e .by) .phase) (e .row (e .by) .phase)) (Z .lag (own b (e .by) .phase) (f .row (e .by) .phase))
+      → Beyond X (lagIn Z b (e .by) e) (lagIn Z b (e .by) f)
       → Due Z X b c OutOfReach
 
 abbrev pub DueNumber : Phases → Setup → Tables → Act → ℕ → Type 0

@@ -1,7 +1,7 @@
 -- Tables that a sound book can hold: what document 01 asks of the numbers in seats, mail places and slots.
 -- Assumes nothing.
 --   phases b k          the own phase of desk k
---   PairFits X o B k q  the pair q for desk k is in range and lags at most B behind o, or is zero where there is no desk k
+--   PairFits X o B k q  the pair q for desk k is in range and lags at most B behind o, or zero where there is no desk k
 --   RowFits X o B r     every pair of the row r fits, o the own phase of each desk
 --   FitsAt X o b        the tables b fit, o the own phase of each desk
 --   Fits X b            the tables b fit

@@ -1,7 +1,7 @@
 -- Before, compare and newest off the book: given a setup and two stamp records.
 -- Assumes nothing.
 --   Label               a stamp: its owner and its row
---   gapOff X j e f      the difference from e to f at desk j that two phases of a ring show, none where it is out of reach
+--   gapOff X j e f      the difference from e to f at desk j that two phases of a ring show, none beyond reach
 --   gapRead X e f       the same of two records; none where one does not read
 --   whyOff X e f out    the smallest number that is due; out: the question is out of reach
 --   beforeOff X e f     the answer to before, of two records as they read

@@ -7,7 +7,7 @@
 --   stampGiven b c     the stamp that the ring answers to the act c on the book b
 --   eventOf h c        the event of that stamp: the one that c adds to the history h, or the one behind the slot
 --   Ongoing cs         no start among the calls cs is accepted
---   Answered X cs e x  the calls cs, from a fresh book of X on, answer the stamp e of the event x, and no later start is accepted
+--   Answered X cs e x  the calls cs, from a fresh book of X on, answer the stamp e of event x; no later start is accepted
 use mathlib.Core.Path.{_≡_}
 use mathlib.Core.Bool.{false}
 use mathlib.Core.Option.{Option, none, some}
@@ -15,7 +15,31 @@ use mathlib.Core.List.{List, [], _∷_, _++_}
 use Prim.Native.Nat.{ℕ, _<_}
 use Rattle.rules.specs.declared.Setup.{Setup}
 use Rattle.rules.specs.Setups.{permits}
-use Rattle.rules.specs.Model.{Held, Tables, Act, local, reset, keep, drop, discard, show, send, receive, before, compare, write, Value, nothing, stamp, sent, slot, says, relates, shows, byIn}
+use Rattle.rules.specs.Model.{
+  Held,
+  Tables,
+  Act,
+  local,
+  reset,
+  keep,
+  drop,
+  discard,
+  show,
+  send,
+  receive,
+  before,
+  compare,
+  write,
+  Value,
+  nothing,
+  stamp,
+  sent,
+  slot,
+  says,
+  relates,
+  shows,
+  byIn,
+}
 use Rattle.rules.specs.Calls.{Book, Call, start, on, ringOf, freshBook, call}
 use Rattle.rules.specs.Labels.{Label}
 use Rattle.rules.specs.Round.{roundRow}
