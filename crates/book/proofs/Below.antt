@@ -1,0 +1,72 @@
+-- Every phase of a sound book is on the ring, also where there is no desk.
+-- Assumes nothing.
+use Prim.Native.Nat.{ℕ, _+_, _*_, _<_, _≤_}
+use mathlib.Core.Path.{_≡_, sym, ap, _∙_}
+use mathlib.Core.Bool.{true}
+use mathlib.Core.Option.{Option, none, some}
+use mathlib.Core.List.{List}
+use mathlib.Core.Logic.{⊎-elim}
+use native.Mathlib.Omega.{arith}
+use Rattle.tools.specs.Tables.{Each}
+use Rattle.tools.specs.Lists.{byte}
+use Rattle.tools.proofs.Tests.{lt-or-le}
+use Rattle.ring.specs.Phases.{Pair}
+use Rattle.rules.specs.Model.{Row, Seat, Held, rowIn}
+use Rattle.rules.specs.Fits.{phases, RowFits, MailFits, SlotFits, Fits}
+use Rattle.rules.proofs.Setups.{permitted}
+use Rattle.book.specs.Layout.{Record, spot, rowAt, setupOf}
+use Rattle.book.specs.Sound.{sound}
+use Rattle.book.specs.Codec.{recordOf, write, decode}
+use Rattle.book.specs.Numbers.{tablesOf}
+use Rattle.book.proofs.Bytes.{pair-is}
+use Rattle.book.proofs.Soundness.{sound-setup, sound-fits}
+use Rattle.book.proofs.Codec.{record-seat, record-mail, record-slot, by-kind, decode-holds}
+
+module _ (s : List ℕ) (h : sound s ≡ true) where
+  -- the row of a record, by the tables
+  row-told : (k j : ℕ) → k < 72 → j < 8 → rowAt s k j ≡ recordOf (tablesOf s) k .row j
+  row-told k j lk lj = pair-is (write (decode s)) s (decode-holds s h) k j lk lj
+
+  pub mail-row : (p j : ℕ) → p < 32 → j < 8 → rowAt s (8 + p) j ≡ rowIn (tablesOf s .mail p) j
+  mail-row p j lp lj = row-told (8 + p) j (omega arith) lj ∙ ap (λ (r : Record). r .row j) (record-mail (tablesOf s) p lp)
+
+  on-ring : 0 < byte s 3
+  on-ring = let p = permitted (setupOf s) (sound-setup s h) .mailed in omega arith
+
+  fits-below : (B : ℕ) (r : Row) (j : ℕ) → RowFits (setupOf s) (phases (tablesOf s)) B r → r j .phase < byte s 3
+  fits-below B r j f =
+      ⊎-elim (λ (m : j < byte s 2). f j .0 m .phase)
+      (λ (m : byte s 2 ≤ j).
+      let z : r j .phase ≡ 0 = ap (λ (q : Pair). q .phase) (f j .1 m) in
+      omega (arith, z, on-ring)) (lt-or-le j (byte s 2))
+
+  fits : Fits (setupOf s) (tablesOf s)
+  fits = sound-fits s h
+
+  pub phase-below : (k j : ℕ) → k < 72 → j < 8 → byte s (spot k (4 + 2 * j)) < byte s 3
+  phase-below k j lk lj =
+      let e : rowAt s k j .phase ≡ recordOf (tablesOf s) k .row j .phase = ap (λ (q : Pair). q .phase) (row-told k j lk lj) in
+      let l = by-kind (λ k. recordOf (tablesOf s) k .row j .phase < byte s 3) seat mail slot k lk in
+      omega arith
+    where
+      seat : (i : ℕ) → i < 8 → recordOf (tablesOf s) i .row j .phase < byte s 3
+      seat i l =
+          rw (record-seat (tablesOf s) i l)
+          (⊎-elim (λ (m : i < byte s 2). fits-below (byte s 5) (tablesOf s .seat i .row) j (fits .seats i m))
+          (λ (m : byte s 2 ≤ i).
+          let z : tablesOf s .seat i .row j .phase ≡ 0 = ap (λ (q : Seat). q .row j .phase) (fits .beyond i m) in
+          omega (arith, z, on-ring)) (lt-or-le i (byte s 2)))
+
+      mail : (p : ℕ) → p < 32 → recordOf (tablesOf s) (8 + p) .row j .phase < byte s 3
+      mail p l = rw (record-mail (tablesOf s) p l) (go (tablesOf s .mail p) (fits .mail p))
+        where
+          go : (o : Option Held) → Each (MailFits (setupOf s) (phases (tablesOf s)) p) o → rowIn o j .phase < byte s 3
+          go none f = on-ring
+          go (some w) f = fits-below (2 * byte s 5) (w .row) j (f .row)
+
+      slot : (p : ℕ) → p < 32 → recordOf (tablesOf s) (40 + p) .row j .phase < byte s 3
+      slot p l = rw (record-slot (tablesOf s) p l) (go (tablesOf s .shelf p) (fits .shelf p))
+        where
+          go : (o : Option Held) → Each (SlotFits (setupOf s) (phases (tablesOf s)) p) o → rowIn o j .phase < byte s 3
+          go none f = on-ring
+          go (some w) f = fits-below (byte s 6) (w .row) j (f .row)

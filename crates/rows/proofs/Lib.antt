@@ -1,0 +1,2 @@
+-- The laws of new rows.
+pub mod Rows

@@ -1,0 +1,69 @@
+-- New rows, byte by byte.
+-- Assumes nothing.
+use Prim.Native.Nat.{ℕ, _+_, _*_, _<_}
+use mathlib.Core.Path.{_≡_, refl, sym, ap, _∙_}
+use mathlib.Core.Bool.{true}
+use mathlib.Core.List.{List}
+use native.Mathlib.Omega.{arith}
+use lib.ListN.{set}
+use Rattle.tools.specs.Tables.{put}
+use Rattle.tools.specs.Lists.{Filled}
+use Rattle.tools.proofs.Tables.{put-both}
+use Rattle.tools.proofs.Lists.{filled-more}
+use Rattle.ring.specs.Phases.{Pair, later}
+use Rattle.rules.specs.Model.{Row, own, rowIn, tick, turn}
+use Rattle.rules.specs.Calls.{ringOf}
+use Rattle.rules.specs.Replies.{rowByte, rowBytes}
+use Rattle.book.specs.Layout.{setupOf, rowAt}
+use Rattle.book.specs.Sound.{sound}
+use Rattle.book.specs.Numbers.{tablesOf}
+use Rattle.book.proofs.Bytes.{row-phase, row-clock}
+use Rattle.book.proofs.Rows.{rows-alike, set-pair}
+use Rattle.book.proofs.Told.{seat-row, read-at, own-at}
+use Rattle.book.proofs.Below.{mail-row}
+use Rattle.rows.specs.Rows.{laterRow, withPair, grownRow, turnedRow, mergedRow}
+
+-- the next desk's pair of a row that is filled desk by desk
+pub filled-pair : (r : Row) (k : ℕ) (row : List ℕ) (x y : ℕ) → Filled 16 (2 * k) (rowByte r) row → k < 8
+    → x ≡ r k .phase → y ≡ r k .clock → Filled 16 (2 * (k + 1)) (rowByte r) (set (set row (2 * k) x) (2 * k + 1) y)
+filled-pair r k row x y h l ex ey =
+    let a : 1 + 2 * k ≡ 2 * k + 1 = omega arith in
+    let e : 2 * k + 1 + 1 ≡ 2 * (k + 1) = omega arith in
+    rw e at (filled-more 16 (2 * k + 1) (rowByte r) (set row (2 * k) x) y
+    (filled-more 16 (2 * k) (rowByte r) row x h (omega arith) (ex ∙ sym (row-phase r k))) (omega arith)
+    (ey ∙ sym (row-clock r k) ∙ ap (rowByte r) a))
+
+-- desk j's own pair is set in a row that is r for eight desks
+put-alike : (r t : Row) (j : ℕ) (q u : Pair) → q ≡ u → ((k : ℕ) → k < 8 → r k ≡ t k) → rowBytes (put r j q) ≡ rowBytes (put t j u)
+put-alike r t j q u e h =
+    rows-alike (put r j q) (put t j u)
+    (λ k m. put-both (λ i (x y : Pair). i < 8 → x ≡ y) r t j q u (λ z. e) (λ i ne z. h i z) k m)
+
+module _ (s : List ℕ) (j : ℕ) (l : j < 8) where
+  seat-at : (k : ℕ) → k < 8 → rowAt s j k ≡ tablesOf s .seat j .row k
+  seat-at k m = sym (ap (λ (r : Row). r k) (seat-row s j l) ∙ read-at (rowAt s j) k m)
+
+  pub grown-bytes : withPair (rowBytes (rowAt s j)) j (tick (rowAt s j j)) ≡ rowBytes (grownRow s j)
+  grown-bytes =
+      set-pair (rowAt s j) j l (tick (rowAt s j j))
+      ∙ put-alike (rowAt s j) (tablesOf s .seat j .row) j (tick (rowAt s j j)) (tick (own (tablesOf s) j)) (ap tick (sym (own-at s j l))) seat-at
+
+  pub turned-bytes : withPair (rowBytes (rowAt s j)) j (turn (ringOf (setupOf s)) (rowAt s j j)) ≡ rowBytes (turnedRow s j)
+  turned-bytes =
+      set-pair (rowAt s j) j l (turn (ringOf (setupOf s)) (rowAt s j j))
+      ∙ put-alike (rowAt s j) (tablesOf s .seat j .row) j (turn (ringOf (setupOf s)) (rowAt s j j))
+      (turn (ringOf (setupOf s)) (own (tablesOf s) j)) (ap (turn (ringOf (setupOf s))) (sym (own-at s j l))) seat-at
+
+  -- p a mail place
+  pub merged-bytes : sound s ≡ true → (p : ℕ) → p < 32
+      → withPair (rowBytes (laterRow s j (8 + p))) j (tick (rowAt s j j)) ≡ rowBytes (mergedRow s j p)
+  merged-bytes h p lp =
+      set-pair (laterRow s j (8 + p)) j l (tick (rowAt s j j))
+      ∙ put-alike (laterRow s j (8 + p))
+      (λ k. later (ringOf (setupOf s)) (own (tablesOf s) k .phase) (tablesOf s .seat j .row k) (rowIn (tablesOf s .mail p) k)) j
+      (tick (rowAt s j j)) (tick (own (tablesOf s) j)) (ap tick (sym (own-at s j l)))
+      (λ k m.
+      let o = sym (own-at s k m) in
+      let a = seat-at k m in
+      let w = mail-row s h p k lp m in
+      λ i. later (ringOf (setupOf s)) (o i .phase) (a i) (w i))

@@ -1,0 +1,59 @@
+-- `rows::is_later` meets its contract.
+-- Assumes nothing.
+use Prim.Native.Nat.{ℕ, _+_, _*_, _<_}
+use native.Mathlib.Omega.{arith}
+use Rattle.tools.specs.Lists.{byte}
+use Rattle.book.specs.Layout.{spot}
+use Rattle.book.proofs.Below.{phase-below}
+use borrow.Author.Needs.{needs}
+use Rattle.rows.proofs.is_later.Statement.{statement}
+use Rattle.rows.proofs.is_later.Tie as tie
+
+-- the phase of desk k in any record is on the ring
+below : (x : tie.Start) (i : ℕ) → i < 72 → byte (x .args .book .now) (spot i (4 + 2 * x .args .k)) < byte (x .args .book .now) 3
+below x i l = phase-below (x .args .book .now) (x .pre .0 .1) i (x .args .k) l (omega arith)
+
+phase-at-requires : tie.Need-phase-at-requires
+phase-at-requires c κs = search needs
+
+phases-of-requires : tie.Need-phases-of-requires
+phases-of-requires c κs = search needs
+
+phase-at-requires-2 : tie.Need-phase-at-requires-2
+phase-at-requires-2 c κs = search needs
+
+phase-at-requires-3 : tie.Need-phase-at-requires-3
+phase-at-requires-3 c κs = search needs
+
+lag-requires : tie.Need-lag-requires
+lag-requires c κs = let x = c .before .before .before .before .before in omega (arith, below x (x .args .k) (omega arith), below x (x .args .d) (omega arith))
+
+lag-requires-2 : tie.Need-lag-requires-2
+lag-requires-2 c κs = let x = c .before .before .before .before .before .before in omega (arith, below x (x .args .k) (omega arith), below x (x .args .m) (omega arith))
+
+clock-at-requires : tie.Need-clock-at-requires
+clock-at-requires c κs = search needs
+
+clock-at-requires-2 : tie.Need-clock-at-requires-2
+clock-at-requires-2 c κs = search needs
+
+later-by-requires : tie.Need-later-by-requires
+later-by-requires c κs = search needs
+
+returns : tie.Need-returns
+returns c = cc
+
+pub is-later-spec : {M : Type 1} → statement M
+is-later-spec =
+    tie.close
+    (tie.spec
+    phase-at-requires
+    phases-of-requires
+    phase-at-requires-2
+    phase-at-requires-3
+    lag-requires
+    lag-requires-2
+    clock-at-requires
+    clock-at-requires-2
+    later-by-requires
+    returns)
