@@ -1,13 +1,13 @@
 -- New rows, byte by byte.
 -- Assumes nothing.
 use Prim.Native.Nat.{ℕ, _+_, _*_, _<_}
-use mathlib.Core.Path.{_≡_, refl, sym, ap, _∙_}
+use mathlib.Core.Path.{_≡_, sym, ap, _∙_}
 use mathlib.Core.Bool.{true}
 use mathlib.Core.List.{List}
 use native.Mathlib.Omega.{arith}
 use lib.ListN.{set}
 use Rattle.tools.specs.Tables.{put}
-use Rattle.tools.specs.Lists.{Filled}
+use Rattle.tools.specs.Lists.{byte, Filled}
 use Rattle.tools.proofs.Tables.{put-both}
 use Rattle.tools.proofs.Lists.{filled-more}
 use Rattle.ring.specs.Phases.{Pair, later}
@@ -19,9 +19,20 @@ use Rattle.book.specs.Sound.{sound}
 use Rattle.book.specs.Numbers.{tablesOf}
 use Rattle.book.proofs.Bytes.{row-phase, row-clock}
 use Rattle.book.proofs.Rows.{rows-alike, set-pair}
-use Rattle.book.proofs.Told.{seat-row, read-at, own-at}
+use Rattle.book.proofs.Told.{seat-row, read-at, own-at, few-desks, room}
+use Rattle.book.proofs.Soundness.{sound-size}
 use Rattle.book.proofs.Below.{mail-row}
-use Rattle.rows.specs.Rows.{laterRow, withPair, grownRow, turnedRow, mergedRow}
+use Rattle.rows.specs.Rows.{AtDesk, Grows, laterRow, withPair, grownRow, turnedRow, mergedRow}
+
+-- a desk of a sound book has a seat, and a clock below its limit may grow
+pub at-desk : (s : List ℕ) (j : ℕ) → sound s ≡ true → j < byte s 2 → AtDesk s j
+at-desk s j h l = record { whole = h; size = sound-size s h; eight = omega (arith, few-desks s h) }
+
+pub grows : (s : List ℕ) (j : ℕ) → sound s ≡ true → j < byte s 2 → own (tablesOf s) j .clock + 1 < byte s 4 → Grows s j
+grows s j h l m =
+    let a = at-desk s j h l in
+    let e : own (tablesOf s) j .clock ≡ rowAt s j j .clock = ap (λ (q : Pair). q .clock) (own-at s j (a .eight)) in
+    record { at = a; clock = omega (arith, e, room s h) }
 
 -- the next desk's pair of a row that is filled desk by desk
 pub filled-pair : (r : Row) (k : ℕ) (row : List ℕ) (x y : ℕ) → Filled 16 (2 * k) (rowByte r) row → k < 8

@@ -1,0 +1,25 @@
+-- `refusals::is_used` meets its contract.
+-- Assumes nothing.
+use mathlib.Core.Path.{ap, _∙_}
+use mathlib.Core.Bool.{not}
+use Prim.Native.Nat.{ℕ}
+use lib.Dec.{eqb}
+use Rattle.refusals.proofs.Held.{none-beyond, used-tag}
+use borrow.Author.Needs.{needs}
+use Rattle.refusals.proofs.is_used.Statement.{statement}
+use Rattle.refusals.proofs.is_used.Tie as tie
+
+returns : tie.Need-returns
+returns c = let x = c .before .before .args in none-beyond (x .book .now) (x .a) (x .p) (c .if1 .taken)
+
+add-tag-a : tie.Need-add-tag-a
+add-tag-a c = search needs
+
+tag-a-requires : tie.Need-tag-a-requires
+tag-a-requires c κs = search needs
+
+returns-2 : tie.Need-returns-2
+returns-2 c = let x = c .before .before .before .args in ap (λ (n : ℕ). not (eqb n 0)) (c .tag-a .ensures) ∙ used-tag (x .book .now) (x .a) (x .p) (c .before .if1 .left)
+
+pub is-used-spec : {M : Type 1} → statement M
+is-used-spec = tie.close (tie.spec returns add-tag-a tag-a-requires returns-2)

@@ -1,0 +1,19 @@
+-- `refusals::unstarted` meets its contract.
+-- Assumes nothing.
+use mathlib.Core.Path.{ap}
+use mathlib.Core.Bool.{not}
+use Prim.Native.Nat.{ℕ}
+use lib.Dec.{eqb}
+use borrow.Author.Tests.{lt-ltb}
+use borrow.Author.Needs.{needs}
+use Rattle.refusals.proofs.unstarted.Statement.{statement}
+use Rattle.refusals.proofs.unstarted.Tie as tie
+
+tag-a-requires : tie.Need-tag-a-requires
+tag-a-requires c κs = search needs
+
+returns : tie.Need-returns
+returns c = let x = c .before .before in rw (lt-ltb (x .args .desk) 8 (x .pre .eight)) (ap (λ (n : ℕ). not (eqb n 1)) (c .tag-a .ensures))
+
+pub unstarted-spec : {M : Type 1} → statement M
+unstarted-spec = tie.close (tie.spec tag-a-requires returns)
