@@ -8,7 +8,7 @@ use Prim.Native.Nat.{ℕ, _+_, _*_, _≤_, _<_}
 use native.Mathlib.Omega.{arith}
 use lib.Dec.{ltb, eqb}
 use borrow.Author.Tests.{eqb-true, eqb-false, eq-eqb, ne-eqb, ltb-true, ltb-false, lt-ltb, le-ltb, not-true}
-use Rattle.tools.specs.Tests.{pick, any}
+use Rattle.tools.specs.Tests.{pick, any, lowest}
 use Rattle.tools.specs.Reasons.{Holds, Smallest}
 use Rattle.tools.proofs.Reasons.{smallest-swap}
 use Rattle.tools.proofs.Tests.{and-true-l, and-true-r, and-false, any-at, any-true, lowest-none, lowest-full, not-off}
@@ -59,10 +59,10 @@ is-beyond X d = go (ltb (d .up) (d .down + X .ahead)) (ltb (d .down) (d .up + X 
     go false q p q′ e = inl (ltb-false _ _ p)
 
 full : (f : ℕ → Option Held) → ((p : ℕ) → p < 32 → used (f p) ≡ true)
-    → not (ltb (Rattle.tools.specs.Tests.lowest 32 (λ p. not (used (f p)))) 32) ≡ true
+    → not (ltb (lowest 32 (λ p. not (used (f p)))) 32) ≡ true
 full f h = rw (lowest-none 32 (λ p. not (used (f p))) (λ p l. ap not (h p l)))
 
-is-full : (f : ℕ → Option Held) → not (ltb (Rattle.tools.specs.Tests.lowest 32 (λ p. not (used (f p)))) 32) ≡ true
+is-full : (f : ℕ → Option Held) → not (ltb (lowest 32 (λ p. not (used (f p)))) 32) ≡ true
     → (p : ℕ) → p < 32 → used (f p) ≡ true
 is-full f t p l = not-off (used (f p)) (lowest-full 32 (λ p. not (used (f p))) (is-least _ 32 t) p l)
 

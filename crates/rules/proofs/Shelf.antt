@@ -75,7 +75,7 @@ module _ (s : State) (w : Faithful s) (i j : ℕ)
       (on-compare X (allowed s w) (s .book .tables) (s .history) (w .good) i j (e .0) (f .0) (e .1) (f .1)))
 
 -- the words that compare may answer, by what it is
-compare-words : (X : Setup) (h : Log) (x y : ℕ) (a : Answer) → ((a .number ≡ 0 → ⊥) → a ≡ refusal (a .number)) → CompareIs X h x y a
+pub compare-words : (X : Setup) (h : Log) (x y : ℕ) (a : Answer) → ((a .number ≡ 0 → ⊥) → a ≡ refusal (a .number)) → CompareIs X h x y a
     → (r : Relation) → a .value ≡ relates r → Stands h x y r
 compare-words X h x y a only w r v = go (both-dec (in-reach? X h x y) (in-reach? X h y x))
   where

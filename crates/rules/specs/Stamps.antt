@@ -7,7 +7,7 @@
 --   stampGiven b c     the stamp that the ring answers to the act c on the book b
 --   eventOf h c        the event of that stamp: the one that c adds to the history h, or the one behind the slot
 --   Ongoing cs         no start among the calls cs is accepted
---   Answered X cs e x  the calls cs, from a fresh book of X on, answer the stamp e of event x; no later start is accepted
+--   Answered X cs e x  the calls cs, from a fresh book of X on, answer the stamp e of event x, and then accept no start
 use mathlib.Core.Path.{_≡_}
 use mathlib.Core.Bool.{false}
 use mathlib.Core.Option.{Option, none, some}
