@@ -4,16 +4,17 @@
 --   Book         a setup and its tables
 --   Call         start, or an act on the book that is there
 --   Turn         what a call answers, and the book that it leaves
+--   reasonsOf Z b c   when which number is given to the call c
 --   call Z b c   the turn of the call c on the book b
 use mathlib.Core.Bool.{not}
-use mathlib.Core.List.{[], _∷_}
+use mathlib.Core.List.{List, [], _∷_}
 use Prim.Native.Nat.{ℕ, zero, suc}
 use Rattle.tools.specs.Reasons.{Reason, first}
 use Rattle.ring.specs.Phases.{Phases, ring, line}
 use Rattle.rules.specs.declared.Setup.{Setup}
 use Rattle.rules.specs.Setups.{permits}
 use Rattle.rules.specs.Numbers.{BadSetup, given}
-use Rattle.rules.specs.Model.{Tables, Act, nothing, Answer, refusal, accepted, Result, fresh, step}
+use Rattle.rules.specs.Model.{Tables, Act, nothing, Answer, refusal, accepted, Result, fresh, reasons, step}
 
 abbrev pub ringOf : Setup → Phases
 ringOf X = ring (X .phases)
@@ -43,8 +44,12 @@ settled (suc n) b t = record { answer = refusal (suc n); book = b }
 abbrev pub turnOf : Setup → Result → Turn
 turnOf X r = record { answer = r .answer; book = record { setup = X; tables = r .tables } }
 
+abbrev pub reasonsOf : (Setup → Phases) → Book → Call → List Reason
+reasonsOf Z b (start X) = given BadSetup (not (permits X)) ∷ []
+reasonsOf Z b (on c) = reasons (Z (b .setup)) (b .setup) (b .tables) c
+
 unfoldable pub call : (Setup → Phases) → Book → Call → Turn
 call Z b (start X) =
-    settled (first (given BadSetup (not (permits X)) ∷ [])) b
+    settled (first (reasonsOf Z b (start X))) b
     (record { answer = accepted nothing; book = freshBook X })
 call Z b (on c) = turnOf (b .setup) (step (Z (b .setup)) (b .setup) (b .tables) c)

@@ -1,4 +1,4 @@
--- The answer table of document 01, row by row: when a name is due to an act; and the reasons of every call as a list.
+-- The answer table of document 01, row by row: when a name is due to an act.
 -- Assumes nothing. BadBook is for the bytes, BadLine for the program.
 --   AtDesk c j          the act c names the desk j
 --   Ticks c j           c is local, send or receive at the desk j
@@ -10,21 +10,15 @@
 --   Beyond X up down    the difference up minus down lies outside -(m-1)..n-1
 --   Due Z X b c w       the name w is due to the act c
 --   DueNumber Z X b c n   a name of the number n is due
---   reasonsOf Z b c     the reasons to refuse the call c
---   reasonsOff X e f out  the reasons to refuse before, compare and newest off the book; out: beyond reach
 use mathlib.Core.Path.{_≡_}
-use mathlib.Core.Bool.{Bool, true, false, not, _||_}
+use mathlib.Core.Bool.{true, false}
 use mathlib.Core.Option.{Option, none, some}
-use mathlib.Core.List.{List, [], _∷_}
 use mathlib.Core.Logic.{_⊎_}
 use Prim.Native.Nat.{ℕ, _+_, _*_, _≤_, _<_}
-use Rattle.tools.specs.Reasons.{Reason}
 use Rattle.ring.specs.Phases.{Phases}
 use Rattle.rules.specs.declared.Setup.{Setup}
-use Rattle.rules.specs.Setups.{permits}
 use Rattle.rules.specs.Numbers.{
   Name,
-  BadSetup,
   NoDesk,
   SameDesk,
   NoPlace,
@@ -36,11 +30,9 @@ use Rattle.rules.specs.Numbers.{
   SeatBehind,
   MailBehind,
   ShelfBehind,
-  BadStamp,
   NoRoom,
   OutOfReach,
   number,
-  given,
 }
 use Rattle.rules.specs.Model.{
   Held,
@@ -59,10 +51,7 @@ use Rattle.rules.specs.Model.{
   write,
   used,
   own,
-  reasons,
 }
-use Rattle.rules.specs.Calls.{Book, Call, start, on}
-use Rattle.rules.specs.Labels.{Label, reads}
 
 pub data AtDesk : Act → ℕ → Type 0 where
   at-local : {j : ℕ} → AtDesk (local j) j
@@ -140,14 +129,3 @@ pub data Due (Z : Phases) (X : Setup) (b : Tables) : Act → Name → Type 0 whe
 
 abbrev pub DueNumber : Phases → Setup → Tables → Act → ℕ → Type 0
 DueNumber Z X b c n = (w : Name) × (number w ≡ n) × Due Z X b c w
-
-abbrev pub reasonsOf : (Setup → Phases) → Book → Call → List Reason
-reasonsOf Z b (start X) = given BadSetup (not (permits X)) ∷ []
-reasonsOf Z b (on c) = reasons (Z (b .setup)) (b .setup) (b .tables) c
-
-abbrev pub reasonsOff : Setup → Option Label → Option Label → Bool → List Reason
-reasonsOff X e f out =
-    given BadSetup (not (permits X))
-    ∷ given BadStamp (not (reads e) || not (reads f))
-    ∷ given OutOfReach out
-    ∷ []

@@ -3,14 +3,14 @@
 --   Label               a stamp: its owner and its row
 --   gapOff X j e f      the difference from e to f at desk j that two phases of a ring show, none beyond reach
 --   gapRead X e f       the same of two records; none where one does not read
---   whyOff X e f out    the smallest number that is due; out: the question is out of reach
+--   reasonsOff X e f out   when which number is given, of two records as they read; out: the question is out of reach
 --   beforeOff X e f     the answer to before, of two records as they read
 --   compareOff X e f    the answer to compare
 --   Which               one of two lent records, or neither
 --   newestOff X e f     the record that is after the other; the first if they are the same
 use mathlib.Core.Bool.{Bool, true, false, not, _||_}
 use mathlib.Core.Option.{Option, none, some}
-use mathlib.Core.List.{[], _∷_}
+use mathlib.Core.List.{List, [], _∷_}
 use Prim.Native.Nat.{ℕ, zero, suc, _-_}
 use lib.Dec.{ltb}
 use Rattle.tools.specs.Tests.{pick}
@@ -67,13 +67,15 @@ rowRead (some e) = e .row
 abbrev pub gapRead : Setup → Option Label → Option Label → Option Gap
 gapRead X e f = gapOff X (ownerIn e) (rowRead e) (rowRead f)
 
-abbrev pub whyOff : Setup → Option Label → Option Label → Bool → ℕ
-whyOff X e f out =
-    first
-    (given BadSetup (not (permits X))
+abbrev pub reasonsOff : Setup → Option Label → Option Label → Bool → List Reason
+reasonsOff X e f out =
+    given BadSetup (not (permits X))
     ∷ given BadStamp (not (reads e) || not (reads f))
     ∷ given OutOfReach out
-    ∷ [])
+    ∷ []
+
+abbrev pub whyOff : Setup → Option Label → Option Label → Bool → ℕ
+whyOff X e f out = first (reasonsOff X e f out)
 
 abbrev pub settleOff : ℕ → Value → Answer
 settleOff zero v = accepted v
