@@ -1,56 +1,128 @@
 // Whether the bytes of a book are sound.
 ghost use mathlib.Core.Path.{_≡_};
-ghost use Prim.Native.Nat.{_+_, _*_, _<_, _≤_};
+ghost use mathlib.Core.List.{[], _∷_};
+ghost use Prim.Native.Nat.{_+_, _<_, _≤_};
+ghost use lib.Dec.{leb, ltb};
 ghost use lib.ListN.{length};
 ghost use Rattle.ring.specs.Phases.{lagOf};
-ghost use Rattle.tools.specs.Tests.{allBelow};
-ghost use Rattle.tools.specs.Lists.{byte};
-ghost use Rattle.book.specs.Layout.{spot, fields, setupOf, mark0, mark1};
+ghost use Rattle.tools.specs.Tests.{pick, allOf, allBelow};
+ghost use Rattle.tools.specs.Lists.{tab};
+ghost use Rattle.book.specs.Layout.{fields};
 ghost use Rattle.book.specs.Sound;
-ghost use Rattle.book.specs.Sound.{columnOk, columnZero, rowOk, rowZero, seatRest, seatNear, seatOk, mailOk, slotOk, recordOk, spareZero, headOk, recordSound};
+ghost use Rattle.book.specs.Sound.{columnZero, rowOk, rowZero, seatRest, seatNear, seatOk, mailOk, slotOk, spareZero, headOk, recordSound};
+ghost use Rattle.soundness.specs.Checks.{ownIn, countOf, desksOf, ownOk, Ready, withMark};
 
-// The lag of the phase v behind the phase own, which may be no phase of the ring.
-fn lag_any(own: u8, v: u8, p: u8) -> u8
-    requires { ⌜ v < p ⌝ }
-    ensures { λ r. ⌜ r ≡ lagOf p own v ⌝ }
-{
-    let o = own as u32;
-    let w = v as u32;
-    let q = p as u32;
-    ((o + q - w) % q) as u8
+// What the pairs of each desk are held to: its own phase, and how many phases and clock values it has. Where there is no desk, one of each.
+struct Desks {
+    own: [u8; 8],
+    phases: [u8; 8],
+    clocks: [u8; 8],
 }
 
-fn column_ok(book: &[u8], bound: usize, k: usize, j: usize) -> bool
+fn own_phase(book: &[u8], j: usize) -> u8
     requires { ⌜ length (now book) ≡ 1456 ⌝ }
-    requires { ⌜ (k < 72) × (j < 8) ⌝ }
-    ensures { λ r. ⌜ r ≡ columnOk (fields (now (book .entry))) bound k j ⌝ }
+    requires { ⌜ j < 8 ⌝ }
+    ensures { λ r. ⌜ r ≡ ownIn (now (book .entry)) j ⌝ }
 {
-    let v = parts::phase_at(book, k, j);
-    let t = parts::clock_at(book, k, j);
-    if parts::desks_of(book) <= j {
-        return (v == 0) & (t == 0);
+    if j < parts::desks_of(book) {
+        return parts::phase_at(book, j, j);
     }
-    let p = parts::phases_of(book);
-    if p <= v {
-        return false;
-    }
-    (tools::wide(t) < parts::clocks_of(book))
-        & (tools::wide(lag_any(parts::phase_at(book, j, j), v, p)) <= bound)
+    0
 }
 
-fn row_ok(book: &[u8], bound: usize, k: usize) -> bool
+fn own_phases(book: &[u8]) -> [u8; 8]
     requires { ⌜ length (now book) ≡ 1456 ⌝ }
-    requires { ⌜ k < 72 ⌝ }
-    ensures { λ r. ⌜ r ≡ rowOk (fields (now (book .entry))) bound k ⌝ }
+    ensures { λ r. ⌜ r ≡ tab 0 8 (ownIn (now (book .entry))) ⌝ }
 {
+    let mut own = [0u8; 8];
     let mut j: usize = 0;
     while j < 8 {
-        if !column_ok(book, bound, k, j) {
-            return false;
-        }
+        own[j] = own_phase(book, j);
         j += 1;
     }
-    true
+    own
+}
+
+// How many phases, or clock values, desk j has, of d desks with n each. Where there is no desk 0 alone is in range, so one.
+fn count_of(d: usize, n: u8, j: usize) -> u8
+    ensures { λ r. ⌜ r ≡ countOf d n j ⌝ }
+{
+    if j < d {
+        return n;
+    }
+    1
+}
+
+fn counts(d: usize, n: u8) -> [u8; 8]
+    ensures { λ r. ⌜ r ≡ tab 0 8 (countOf d n) ⌝ }
+{
+    let mut all = [0u8; 8];
+    let mut j: usize = 0;
+    while j < 8 {
+        all[j] = count_of(d, n, j);
+        j += 1;
+    }
+    all
+}
+
+fn desks_in(book: &[u8]) -> Desks
+    requires { ⌜ length (now book) ≡ 1456 ⌝ }
+    ensures { λ r. ⌜ r ≡ desksOf (now (book .entry)) ⌝ }
+{
+    let d = parts::desks_of(book);
+    Desks {
+        own: own_phases(book),
+        phases: counts(d, book[3]),
+        clocks: counts(d, book[4]),
+    }
+}
+
+// Whether each own phase is a phase of the ring. Where one is not, its seat is not sound; where all are, a compare does the remainder's work.
+fn own_ok(desks: Desks) -> bool
+    ensures { λ r. ⌜ r ≡ ownOk desks ⌝ }
+{
+    let mut ok = true;
+    let mut j: usize = 0;
+    while j < 8 {
+        ok = ok & (desks.own[j] < desks.phases[j]);
+        j += 1;
+    }
+    ok
+}
+
+// By how much own is moved on, so that it does not stand below v: not at all, or once round the ring.
+fn lap(own: u8, v: u8, p: u8) -> u8
+    ensures { λ r. ⌜ r ≡ pick (leb v own) 0 p ⌝ }
+{
+    if v <= own {
+        return 0;
+    }
+    p
+}
+
+// The lag is compared as a sum on both sides: no remainder, no difference that could wrap, no branch.
+fn pair_ok(own: u8, p: u8, l: u8, bound: usize, v: u8, t: u8) -> bool
+    requires { ⌜ (own < p) × (bound ≤ 510) ⌝ }
+    ensures { λ r. ⌜ r ≡ allOf (ltb v p ∷ ltb t l ∷ leb (lagOf p own v) bound ∷ []) ⌝ }
+{
+    (v < p) & ((t < l) & (tools::wide(own) + tools::wide(lap(own, v, p)) <= tools::wide(v) + bound))
+}
+
+// No pair ends the loop early: so all eight are compared at once.
+fn row_ok(book: &[u8], desks: Desks, bound: usize, k: usize) -> bool
+    requires { ⌜ Ready (now book) desks ⌝ }
+    requires { ⌜ (k < 72) × (bound ≤ 510) ⌝ }
+    ensures { λ r. ⌜ r ≡ rowOk (fields (now (book .entry))) bound k ⌝ }
+{
+    let mut ok = true;
+    let mut j: usize = 0;
+    while j < 8 {
+        let v = parts::phase_at(book, k, j);
+        let t = parts::clock_at(book, k, j);
+        ok = ok & pair_ok(desks.own[j], desks.phases[j], desks.clocks[j], bound, v, t);
+        j += 1;
+    }
+    ok
 }
 
 fn column_zero(book: &[u8], k: usize, j: usize) -> bool
@@ -66,14 +138,13 @@ fn row_zero(book: &[u8], k: usize) -> bool
     requires { ⌜ k < 72 ⌝ }
     ensures { λ r. ⌜ r ≡ rowZero (fields (now (book .entry))) k ⌝ }
 {
+    let mut ok = true;
     let mut j: usize = 0;
     while j < 8 {
-        if !column_zero(book, k, j) {
-            return false;
-        }
+        ok = ok & column_zero(book, k, j);
         j += 1;
     }
-    true
+    ok
 }
 
 fn seat_rest(book: &[u8], k: usize) -> bool
@@ -88,29 +159,29 @@ fn seat_rest(book: &[u8], k: usize) -> bool
     }
 }
 
-fn seat_near(book: &[u8], k: usize) -> bool
-    requires { ⌜ length (now book) ≡ 1456 ⌝ }
+fn seat_near(book: &[u8], desks: Desks, k: usize) -> bool
+    requires { ⌜ Ready (now book) desks ⌝ }
     requires { ⌜ k < 72 ⌝ }
     ensures { λ r. ⌜ r ≡ seatNear (fields (now (book .entry))) k ⌝ }
 {
     if k < parts::desks_of(book) {
-        row_ok(book, tools::wide(parts::seat_lag_of(book)), k)
+        row_ok(book, desks, tools::wide(parts::seat_lag_of(book)), k)
     } else {
         true
     }
 }
 
-fn seat_ok(book: &[u8], k: usize) -> bool
-    requires { ⌜ length (now book) ≡ 1456 ⌝ }
+fn seat_ok(book: &[u8], desks: Desks, k: usize) -> bool
+    requires { ⌜ Ready (now book) desks ⌝ }
     requires { ⌜ k < 72 ⌝ }
     ensures { λ r. ⌜ r ≡ seatOk (fields (now (book .entry))) k ⌝ }
 {
     (parts::tag_a(book, k) <= 1)
-        & ((parts::tag_b(book, k) == 0) & (seat_rest(book, k) & seat_near(book, k)))
+        & ((parts::tag_b(book, k) == 0) & (seat_rest(book, k) & seat_near(book, desks, k)))
 }
 
-fn mail_ok(book: &[u8], k: usize) -> bool
-    requires { ⌜ length (now book) ≡ 1456 ⌝ }
+fn mail_ok(book: &[u8], desks: Desks, k: usize) -> bool
+    requires { ⌜ Ready (now book) desks ⌝ }
     requires { ⌜ k < 72 ⌝ }
     ensures { λ r. ⌜ r ≡ mailOk (fields (now (book .entry))) k ⌝ }
 {
@@ -123,11 +194,11 @@ fn mail_ok(book: &[u8], k: usize) -> bool
     (tools::wide(a) <= d)
         & ((1 <= b)
             & ((tools::wide(b) <= d)
-                & ((a != b) & row_ok(book, 2 * tools::wide(parts::seat_lag_of(book)), k))))
+                & ((a != b) & row_ok(book, desks, 2 * tools::wide(parts::seat_lag_of(book)), k))))
 }
 
-fn slot_ok(book: &[u8], k: usize) -> bool
-    requires { ⌜ length (now book) ≡ 1456 ⌝ }
+fn slot_ok(book: &[u8], desks: Desks, k: usize) -> bool
+    requires { ⌜ Ready (now book) desks ⌝ }
     requires { ⌜ k < 72 ⌝ }
     ensures { λ r. ⌜ r ≡ slotOk (fields (now (book .entry))) k ⌝ }
 {
@@ -137,44 +208,68 @@ fn slot_ok(book: &[u8], k: usize) -> bool
         return (b == 0) & row_zero(book, k);
     }
     (b == 0)
-        & ((tools::wide(a) <= parts::desks_of(book)) & row_ok(book, parts::shelf_lag_of(book), k))
+        & ((tools::wide(a) <= parts::desks_of(book))
+            & row_ok(book, desks, parts::shelf_lag_of(book), k))
 }
 
-fn record_ok(book: &[u8], k: usize) -> bool
+// Whether record k has its mark, and its contents are in order.
+fn marked(book: &[u8], k: usize, ok: bool) -> bool
     requires { ⌜ length (now book) ≡ 1456 ⌝ }
     requires { ⌜ k < 72 ⌝ }
-    ensures { λ r. ⌜ r ≡ recordOk (fields (now (book .entry))) k ⌝ }
-{
-    if k < 8 {
-        return seat_ok(book, k);
-    }
-    if k < 40 {
-        return mail_ok(book, k);
-    }
-    slot_ok(book, k)
-}
-
-fn record_sound(book: &[u8], k: usize) -> bool
-    requires { ⌜ length (now book) ≡ 1456 ⌝ }
-    requires { ⌜ k < 72 ⌝ }
-    ensures { λ r. ⌜ r ≡ recordSound (now (book .entry)) k ⌝ }
+    ensures { λ r. ⌜ r ≡ withMark (now (book .entry)) k ok ⌝ }
 {
     (parts::byte_at(book, k, 0) == parts::first_mark(k))
-        & ((parts::byte_at(book, k, 1) == parts::second_mark(k)) & record_ok(book, k))
+        & ((parts::byte_at(book, k, 1) == parts::second_mark(k)) & ok)
+}
+
+fn seats_sound(book: &[u8], desks: Desks) -> bool
+    requires { ⌜ Ready (now book) desks ⌝ }
+    ensures { λ r. ⌜ r ≡ allBelow 8 (recordSound (now (book .entry))) ⌝ }
+{
+    let mut ok = true;
+    let mut k: usize = 0;
+    while k < 8 {
+        ok = ok & marked(book, k, seat_ok(book, desks, k));
+        k += 1;
+    }
+    ok
+}
+
+fn mail_sound(book: &[u8], desks: Desks) -> bool
+    requires { ⌜ Ready (now book) desks ⌝ }
+    ensures { λ r. ⌜ r ≡ allBelow 32 (λ i. recordSound (now (book .entry)) (8 + i)) ⌝ }
+{
+    let mut ok = true;
+    let mut i: usize = 0;
+    while i < 32 {
+        ok = ok & marked(book, 8 + i, mail_ok(book, desks, 8 + i));
+        i += 1;
+    }
+    ok
+}
+
+fn shelf_sound(book: &[u8], desks: Desks) -> bool
+    requires { ⌜ Ready (now book) desks ⌝ }
+    ensures { λ r. ⌜ r ≡ allBelow 32 (λ i. recordSound (now (book .entry)) (40 + i)) ⌝ }
+{
+    let mut ok = true;
+    let mut i: usize = 0;
+    while i < 32 {
+        ok = ok & marked(book, 40 + i, slot_ok(book, desks, 40 + i));
+        i += 1;
+    }
+    ok
 }
 
 fn records_sound(book: &[u8]) -> bool
     requires { ⌜ length (now book) ≡ 1456 ⌝ }
     ensures { λ r. ⌜ r ≡ allBelow 72 (recordSound (now (book .entry))) ⌝ }
 {
-    let mut k: usize = 0;
-    while k < 72 {
-        if !record_sound(book, k) {
-            return false;
-        }
-        k += 1;
+    let desks = desks_in(book);
+    if !own_ok(desks) {
+        return false;
     }
-    true
+    seats_sound(book, desks) & (mail_sound(book, desks) & shelf_sound(book, desks))
 }
 
 fn spare_zero(book: &[u8]) -> bool

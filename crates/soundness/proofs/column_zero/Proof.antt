@@ -14,7 +14,7 @@ clock-at-requires c κs = search needs
 
 returns : tie.Need-returns
 unfolding columnZero allOf
-returns c = cc
+returns c = rw (columnZero, c .before .phase-at .ensures, c .clock-at .ensures)
 
 pub column-zero-spec : {M : Type 1} → statement M
 column-zero-spec = tie.close (tie.spec phase-at-requires clock-at-requires returns)

@@ -17,7 +17,7 @@ spare-zero-requires c κs = search needs
 
 returns : tie.Need-returns
 unfolding headOk allOf
-returns c = cc
+returns c = rw (headOk, c .spare-zero .ensures)
 
 pub head-ok-spec : {M : Type 1} → statement M
 head-ok-spec =

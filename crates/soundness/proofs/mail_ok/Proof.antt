@@ -1,9 +1,9 @@
 -- `soundness::mail_ok` meets its contract.
 -- Assumes nothing.
-use Rattle.book.specs.Sound.{mailOk}
 use Rattle.tools.specs.Tests.{allOf}
 use borrow.Author.Tests.{eq-eqb, ne-eqb}
 use mathlib.Core.Path.{sym, _∙_}
+use Rattle.book.specs.Sound.{mailOk}
 use borrow.Author.Needs.{needs}
 use Rattle.soundness.proofs.mail_ok.Statement.{statement}
 use Rattle.soundness.proofs.mail_ok.Tie as tie
@@ -19,7 +19,7 @@ row-zero-requires c κs = search needs
 
 returns : tie.Need-returns
 unfolding mailOk allOf
-returns c = rw (mailOk, eq-eqb _ _ (sym (c .before .before .before .tag-a .ensures) ∙ c .before .if1 .taken)) (cc)
+returns c = rw (mailOk, eq-eqb _ _ (sym (c .before .before .before .tag-a .ensures) ∙ c .before .if1 .taken), c .before .before .tag-b .ensures, c .row-zero .ensures)
 
 desks-of-requires : tie.Need-desks-of-requires
 desks-of-requires c κs = search needs
@@ -44,7 +44,7 @@ row-ok-requires c κs = search needs
 
 returns-2 : tie.Need-returns-2
 unfolding mailOk allOf
-returns-2 c = rw (mailOk, ne-eqb _ _ (λ e. c .before .before .before .before .before .before .if1 .left (c .before .before .before .before .before .before .before .before .tag-a .ensures ∙ e))) (cc)
+returns-2 c = rw (mailOk, ne-eqb _ _ (λ e. c .before .before .before .before .before .before .if1 .left (c .before .before .before .before .before .before .before .before .tag-a .ensures ∙ e)), c .row-ok .ensures, c .before .wide3 .ensures, c .before .before .seat-lag-of .ensures, c .before .before .before .wide2 .ensures, c .before .before .before .before .wide .ensures, c .before .before .before .before .before .desks-of .ensures, c .before .before .before .before .before .before .before .tag-b .ensures, c .before .before .before .before .before .before .before .before .tag-a .ensures)
 
 pub mail-ok-spec : {M : Type 1} → statement M
 mail-ok-spec =

@@ -1,33 +1,43 @@
 -- `soundness::row_ok` meets its contract.
 -- Assumes nothing.
+use Prim.Native.Nat.{_≤_, _-_}
+use mathlib.Core.Path.{_≡_}
+use native.Mathlib.Omega.{arith}
+use borrow.Author.Needs.{needs}
+use Rattle.tools.specs.Tests.{allBelow}
+use Rattle.soundness.proofs.Checks.{all-start, and-more}
 use Rattle.book.specs.Layout.{fields}
 use Rattle.book.specs.Sound.{columnOk, rowOk}
-use Rattle.tools.specs.Tests.{allBelow}
-use Rattle.tools.proofs.Tests.{all-none, all-more, all-not}
-use borrow.Author.Tests.{not-true, not-false}
-use borrow.Author.Needs.{needs}
-use native.Mathlib.Omega.{arith}
-use mathlib.Core.Bool.{true}
-use mathlib.Core.Path.{_≡_, sym, _∙_}
-use Prim.Native.Nat.{_≤_, _-_}
+use Rattle.soundness.proofs.Checks.{column-is, own-below}
 use Rattle.soundness.proofs.row_ok.Statement.{statement}
 use Rattle.soundness.proofs.row_ok.Tie as tie
 
 abbrev Inv-loop : tie.InvT-loop
-Inv-loop book bound k j₀ j = (j ≤ 8) × (allBelow j (columnOk (fields book) bound k) ≡ true)
+Inv-loop book bound k desks ok₀ j₀ ok j = (j ≤ 8) × (ok ≡ allBelow j (columnOk (fields book) bound k))
 
 abbrev μ-loop : tie.MeasureT-loop
-μ-loop book bound k j₀ j = 8 - j
+μ-loop book bound k desks ok₀ j₀ ok j = 8 - j
 
 loop-holds : tie.Need-loop-holds Inv-loop μ-loop
-loop-holds c = (search needs, all-none _)
+loop-holds c = (search needs, all-start _)
 
-column-ok-requires : tie.Need-column-ok-requires Inv-loop μ-loop
-column-ok-requires c κs = search needs
+phase-at-requires : tie.Need-phase-at-requires Inv-loop μ-loop
+phase-at-requires c κs = search needs
 
-returns : tie.Need-returns Inv-loop μ-loop
-unfolding rowOk
-returns c = let h = c .before .before .before in sym (all-not _ 8 (h .loop .j) (omega arith) (sym (c .before .column-ok .ensures) ∙ not-true _ (c .if1 .taken)))
+clock-at-requires : tie.Need-clock-at-requires Inv-loop μ-loop
+clock-at-requires c κs = search needs
+
+element-copy-out-pair-ok : tie.Need-element-copy-out-pair-ok Inv-loop μ-loop
+element-copy-out-pair-ok c = search needs
+
+element-copy-out-pair-ok-2 : tie.Need-element-copy-out-pair-ok-2 Inv-loop μ-loop
+element-copy-out-pair-ok-2 c = search needs
+
+element-copy-out-pair-ok-3 : tie.Need-element-copy-out-pair-ok-3 Inv-loop μ-loop
+element-copy-out-pair-ok-3 c = search needs
+
+pair-ok-requires : tie.Need-pair-ok-requires Inv-loop μ-loop
+pair-ok-requires c κs = let a = c .before .before .before .before .before .before .before .before .args in (own-below (a .book .now) (a .t2) (c .before .before .before .before .before .before .loop .j) (search needs) (omega arith), search needs)
 
 add-j : tie.Need-add-j Inv-loop μ-loop
 add-j c = omega arith
@@ -36,11 +46,11 @@ loop-less : tie.Need-loop-less Inv-loop μ-loop
 loop-less c = omega arith
 
 loop-again : tie.Need-loop-again Inv-loop μ-loop
-loop-again c = (omega arith, all-more _ _ (c .before .before .before .loop .inv .1) (sym (c .before .column-ok .ensures) ∙ not-false _ (c .if1 .left)))
+loop-again c = let a = c .before .before .before .before .before .before .before .before .before .args in let h = c .before .before .before .before .before .before .before .loop in (omega arith, and-more _ (h .j) _ _ (h .inv .1) (column-is (a .book .now) (a .t2) (a .bound) (a .k) (h .j) _ _ _ (c .before .before .before .before .before .before .before .before .before .pre .0) (omega arith) (c .before .before .before .before .before .phase-at .ensures) (c .before .before .before .before .clock-at .ensures) (c .pair-ok .ensures)))
 
-returns-2 : tie.Need-returns-2 Inv-loop μ-loop
+returns : tie.Need-returns Inv-loop μ-loop
 unfolding rowOk
-returns-2 c = let e : c .before .loop .j ≡ 8 = omega arith in sym (rw e at (c .before .loop .inv .1))
+returns c = let h = c .before .loop in let e : h .j ≡ 8 = omega arith in rw e at (h .inv .1)
 
 pub row-ok-spec : {M : Type 1} → statement M
 row-ok-spec =
@@ -49,9 +59,13 @@ row-ok-spec =
     Inv-loop
     μ-loop
     loop-holds
-    column-ok-requires
-    returns
+    phase-at-requires
+    clock-at-requires
+    element-copy-out-pair-ok
+    element-copy-out-pair-ok-2
+    element-copy-out-pair-ok-3
+    pair-ok-requires
     add-j
     loop-less
     loop-again
-    returns-2)
+    returns)

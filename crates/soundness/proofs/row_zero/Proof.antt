@@ -1,33 +1,27 @@
 -- `soundness::row_zero` meets its contract.
 -- Assumes nothing.
+use Prim.Native.Nat.{_≤_, _-_}
+use mathlib.Core.Path.{_≡_}
+use native.Mathlib.Omega.{arith}
+use borrow.Author.Needs.{needs}
+use Rattle.tools.specs.Tests.{allBelow}
+use Rattle.soundness.proofs.Checks.{all-start, and-more}
 use Rattle.book.specs.Layout.{fields}
 use Rattle.book.specs.Sound.{columnZero, rowZero}
-use Rattle.tools.specs.Tests.{allBelow}
-use Rattle.tools.proofs.Tests.{all-none, all-more, all-not}
-use borrow.Author.Tests.{not-true, not-false}
-use borrow.Author.Needs.{needs}
-use native.Mathlib.Omega.{arith}
-use mathlib.Core.Bool.{true}
-use mathlib.Core.Path.{_≡_, sym, _∙_}
-use Prim.Native.Nat.{_≤_, _-_}
 use Rattle.soundness.proofs.row_zero.Statement.{statement}
 use Rattle.soundness.proofs.row_zero.Tie as tie
 
 abbrev Inv-loop : tie.InvT-loop
-Inv-loop book k j₀ j = (j ≤ 8) × (allBelow j (columnZero (fields book) k) ≡ true)
+Inv-loop book k ok₀ j₀ ok j = (j ≤ 8) × (ok ≡ allBelow j (columnZero (fields book) k))
 
 abbrev μ-loop : tie.MeasureT-loop
-μ-loop book k j₀ j = 8 - j
+μ-loop book k ok₀ j₀ ok j = 8 - j
 
 loop-holds : tie.Need-loop-holds Inv-loop μ-loop
-loop-holds c = (search needs, all-none _)
+loop-holds c = (search needs, all-start _)
 
 column-zero-requires : tie.Need-column-zero-requires Inv-loop μ-loop
 column-zero-requires c κs = search needs
-
-returns : tie.Need-returns Inv-loop μ-loop
-unfolding rowZero
-returns c = let h = c .before .before .before in sym (all-not _ 8 (h .loop .j) (omega arith) (sym (c .before .column-zero .ensures) ∙ not-true _ (c .if1 .taken)))
 
 add-j : tie.Need-add-j Inv-loop μ-loop
 add-j c = omega arith
@@ -36,22 +30,13 @@ loop-less : tie.Need-loop-less Inv-loop μ-loop
 loop-less c = omega arith
 
 loop-again : tie.Need-loop-again Inv-loop μ-loop
-loop-again c = (omega arith, all-more _ _ (c .before .before .before .loop .inv .1) (sym (c .before .column-zero .ensures) ∙ not-false _ (c .if1 .left)))
+loop-again c = let h = c .before .before .loop in (omega arith, and-more _ (h .j) _ _ (h .inv .1) (c .column-zero .ensures))
 
-returns-2 : tie.Need-returns-2 Inv-loop μ-loop
+returns : tie.Need-returns Inv-loop μ-loop
 unfolding rowZero
-returns-2 c = let e : c .before .loop .j ≡ 8 = omega arith in sym (rw e at (c .before .loop .inv .1))
+returns c = let h = c .before .loop in let e : h .j ≡ 8 = omega arith in rw e at (h .inv .1)
 
 pub row-zero-spec : {M : Type 1} → statement M
 row-zero-spec =
     tie.close
-    (tie.spec
-    Inv-loop
-    μ-loop
-    loop-holds
-    column-zero-requires
-    returns
-    add-j
-    loop-less
-    loop-again
-    returns-2)
+    (tie.spec Inv-loop μ-loop loop-holds column-zero-requires add-j loop-less loop-again returns)

@@ -22,7 +22,7 @@ row-ok-requires c κs = search needs
 
 returns : tie.Need-returns
 unfolding seatNear
-returns c = let a = c .before .before .before .before .before .before .args in rw (seatNear, lt-ltb (a .k) (byte (a .book .now) 2) (omega arith)) (cc)
+returns c = let a = c .before .before .before .before .before .before .args in rw (seatNear, lt-ltb (a .k) (byte (a .book .now) 2) (omega arith), c .row-ok .ensures, c .before .wide .ensures, c .before .before .seat-lag-of .ensures)
 
 returns-2 : tie.Need-returns-2
 unfolding seatNear

@@ -20,7 +20,7 @@ seat-near-requires c κs = search needs
 
 returns : tie.Need-returns
 unfolding seatOk allOf
-returns c = cc
+returns c = rw (seatOk, c .seat-near .ensures, c .before .seat-rest .ensures, c .before .before .tag-b .ensures, c .before .before .before .tag-a .ensures)
 
 pub seat-ok-spec : {M : Type 1} → statement M
 seat-ok-spec =

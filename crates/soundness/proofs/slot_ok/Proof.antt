@@ -1,9 +1,10 @@
 -- `soundness::slot_ok` meets its contract.
 -- Assumes nothing.
-use Rattle.book.specs.Sound.{slotOk}
 use Rattle.tools.specs.Tests.{allOf}
 use borrow.Author.Tests.{eq-eqb, ne-eqb}
 use mathlib.Core.Path.{sym, _∙_}
+use Rattle.book.specs.Sound.{slotOk}
+use native.Mathlib.Omega.{arith}
 use borrow.Author.Needs.{needs}
 use Rattle.soundness.proofs.slot_ok.Statement.{statement}
 use Rattle.soundness.proofs.slot_ok.Tie as tie
@@ -19,7 +20,7 @@ row-zero-requires c κs = search needs
 
 returns : tie.Need-returns
 unfolding slotOk allOf
-returns c = rw (slotOk, eq-eqb _ _ (sym (c .before .before .before .tag-a .ensures) ∙ c .before .if1 .taken)) (cc)
+returns c = rw (slotOk, eq-eqb _ _ (sym (c .before .before .before .tag-a .ensures) ∙ c .before .if1 .taken), c .before .before .tag-b .ensures, c .row-zero .ensures)
 
 wide-requires : tie.Need-wide-requires
 wide-requires c κs = search needs
@@ -31,11 +32,11 @@ shelf-lag-of-requires : tie.Need-shelf-lag-of-requires
 shelf-lag-of-requires c κs = search needs
 
 row-ok-requires : tie.Need-row-ok-requires
-row-ok-requires c κs = search needs
+row-ok-requires c κs = (search needs, (search needs, omega (arith, c .before .before .before .before .before .before .shared-slice-known .given 6)))
 
 returns-2 : tie.Need-returns-2
 unfolding slotOk allOf
-returns-2 c = rw (slotOk, ne-eqb _ _ (λ e. c .before .before .before .before .if1 .left (c .before .before .before .before .before .before .tag-a .ensures ∙ e))) (cc)
+returns-2 c = rw (slotOk, ne-eqb _ _ (λ e. c .before .before .before .before .if1 .left (c .before .before .before .before .before .before .tag-a .ensures ∙ e)), c .row-ok .ensures, c .before .shelf-lag-of .ensures, c .before .before .desks-of .ensures, c .before .before .before .wide .ensures, c .before .before .before .before .before .tag-b .ensures, c .before .before .before .before .before .before .tag-a .ensures)
 
 pub slot-ok-spec : {M : Type 1} → statement M
 slot-ok-spec =

@@ -27,7 +27,7 @@ records-sound-requires c κs = search needs
 
 returns-2 : tie.Need-returns-2
 unfolding sound allOf
-returns-2 c = rw (sound, eq-eqb _ _ (c .before .before .before .before .if1 .left)) (cc)
+returns-2 c = rw (sound, eq-eqb _ _ (c .before .before .before .before .if1 .left), c .records-sound .ensures, c .before .permits .ensures, c .before .before .setup-of .ensures, c .before .before .before .head-ok .ensures)
 
 pub sound-spec : {M : Type 1} → statement M
 sound-spec =

@@ -1,0 +1,2 @@
+-- The laws of the sound check.
+pub mod Checks

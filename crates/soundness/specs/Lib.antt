@@ -1,0 +1,2 @@
+-- What the parts of the sound check tell.
+pub mod Checks
