@@ -1,0 +1,3 @@
+-- Laws of lines, and lines that are read.
+pub mod Shapes
+pub mod Exact
