@@ -1,0 +1,2 @@
+-- How long the parts of a line are.
+pub mod Lengths

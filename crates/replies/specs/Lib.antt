@@ -1,0 +1,2 @@
+-- What an answer looks like as a line.
+pub mod Print
