@@ -5,6 +5,9 @@
 --   after-join, text-join      two pieces, one after the other, are the pieces joined
 --   quiet, gathers             bytes with no newline print nothing, and are kept
 --   line-text, line-after      a line and its newline
+--   more-text, more-after      a piece up to the end of a line, where the line before has ended
+--   tail-text, tail-after      a piece up to a place in a line, where the line before has ended
+--   first-text, first-after    a piece that ends the line that has begun, and goes on
 --   Blind                      an answer goes by the bytes of a line that are kept
 --   text-cut, after-cut        a state of which no more is kept prints the same, and goes on alike
 --   any-cut                    however the input is cut into pieces, it prints the same
@@ -13,6 +16,7 @@ use Prim.Native.Nat.{ℕ, zero, suc, _+_, _-_, _<_, _≤_}
 use mathlib.Core.Path.{_≡_, refl, sym, ap, _∙_}
 use mathlib.Core.Bool.{Bool, true, false, not, _&&_}
 use mathlib.Core.List.{List, [], _∷_, _++_, append-assoc, append-nil, flatten}
+use native.Mathlib.Numerals.{add-one}
 use native.Mathlib.Omega.{arith}
 use borrow.Author.Tests.{not-true, ne-eqb}
 use lib.Dec.{eqb}
@@ -24,6 +28,7 @@ use Rattle.text.specs.Stream.{
   Answers,
   flat,
   part,
+  Ends,
   State,
   start,
   most,
@@ -109,6 +114,78 @@ module _ (A : Answers) where
       → after A s (xs ++ 10 ∷ []) ≡ start (A .leaves (s .book) (s .line ++ xs))
   unfolding after next
   line-after s xs f = rw (after-join s xs (10 ∷ []), gathers s xs f)
+
+  module _ (s : State) (b xs : List ℕ) (a e : ℕ) (h : Ends xs a e) (began : after A s (take a xs) ≡ start b) where
+    line-there : e < length xs → take (e + 1) xs ≡ take a xs ++ (part a e xs ++ 10 ∷ [])
+    line-there l =
+        rw (add-one, take-suc xs e 0 l, h .newline l, take-part a e xs (h .from)) (append-assoc (take a xs) (part a e xs) (10 ∷ []))
+
+    pub more-text : e < length xs → textOf A s (take (e + 1) xs) ≡ textOf A s (take a xs) ++ A .says b (part a e xs)
+    more-text l =
+        rw (
+          line-there l,
+          text-join s (take a xs) (part a e xs ++ 10 ∷ []),
+          began,
+          line-text (start b) (part a e xs) (h .plain),
+        )
+
+    pub more-after : e < length xs → after A s (take (e + 1) xs) ≡ start (A .leaves b (part a e xs))
+    more-after l =
+        rw (
+          line-there l,
+          after-join s (take a xs) (part a e xs ++ 10 ∷ []),
+          began,
+          line-after (start b) (part a e xs) (h .plain),
+        )
+
+    pub tail-text : textOf A s (take e xs) ≡ textOf A s (take a xs)
+    tail-text =
+        rw (take-part a e xs (h .from), text-join s (take a xs) (part a e xs), quiet (after A s (take a xs)) (part a e xs) (h .plain))
+        (append-nil (textOf A s (take a xs)))
+
+    pub tail-after : after A s (take e xs) ≡ record { book = b; line = part a e xs }
+    tail-after =
+        rw (
+          take-part a e xs (h .from),
+          after-join s (take a xs) (part a e xs),
+          began,
+          gathers (start b) (part a e xs) (h .plain),
+        )
+
+  module _ (s : State) (xs : List ℕ) (e : ℕ) (h : Ends xs 0 e) where
+    pub first-plain : flat (take e xs) ≡ true
+    first-plain =
+        let z : e - 0 ≡ e = omega arith in
+        rw z at (h .plain)
+
+    first-there : e < length xs → (n : ℕ) → take (e + 1 + n) xs ≡ (take e xs ++ 10 ∷ []) ++ take n (drop (e + 1) xs)
+    first-there l n = take-add (e + 1) n xs ∙ rw (add-one, take-suc xs e 0 l, h .newline l)
+
+    pub first-text
+        : e < length xs
+        → (n : ℕ)
+        → textOf A s (take (e + 1 + n) xs)
+            ≡ A .says (s .book) (s .line ++ take e xs)
+                ++ textOf A (start (A .leaves (s .book) (s .line ++ take e xs))) (take n (drop (e + 1) xs))
+    first-text l n =
+        rw (
+          first-there l n,
+          text-join s (take e xs ++ 10 ∷ []) (take n (drop (e + 1) xs)),
+          line-text s (take e xs) first-plain,
+          line-after s (take e xs) first-plain,
+        )
+
+    pub first-after
+        : e < length xs
+        → (n : ℕ)
+        → after A s (take (e + 1 + n) xs)
+            ≡ after A (start (A .leaves (s .book) (s .line ++ take e xs))) (take n (drop (e + 1) xs))
+    first-after l n =
+        rw (
+          first-there l n,
+          after-join s (take e xs ++ 10 ∷ []) (take n (drop (e + 1) xs)),
+          line-after s (take e xs) first-plain,
+        )
 
   pub printed-none : (b : List ℕ) → printed A b [] ≡ []
   unfolding printed textOf after lastText
