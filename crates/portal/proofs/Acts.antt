@@ -1,0 +1,255 @@
+-- What a call answers and leaves, from the number that it is due: refused, or done.
+-- Assumes nothing.
+use Prim.Native.Nat.{ℕ, zero, suc, _+_, _<_}
+use mathlib.Core.Path.{_≡_, refl, sym, ap, _∙_, subst}
+use mathlib.Core.Bool.{true}
+use mathlib.Core.Option.{Option, none, some}
+use mathlib.Core.List.{List}
+use native.Mathlib.Omega.{arith}
+use borrow.Author.Tests.{ne-eqb}
+use Rattle.tools.specs.Tables.{put}
+use Rattle.tools.specs.Lists.{byte}
+use Rattle.tools.proofs.Tests.{not-off}
+use Rattle.tools.proofs.Reasons.{clear}
+use Rattle.rules.specs.declared.Stamp.{Stamp}
+use Rattle.rules.specs.declared.Stamped.{Stamped}
+use Rattle.rules.specs.declared.Posted.{Posted}
+use Rattle.rules.specs.declared.Posted.the-variants as Posts
+use Rattle.rules.specs.declared.Kept.{Kept}
+use Rattle.rules.specs.declared.Kept.the-variants as Keeps
+use Rattle.rules.specs.Model.{Row, Held, Tables, Act, local, send, receive, reset, keep, drop, discard, Value, stamp, refusal, accepted, Result, reasons, done, own, event, freeMail, freeSlot, noMail, noSlot, used, zeros, sent, slot}
+use Rattle.rules.specs.Calls.{on, ringOf}
+use Rattle.rules.specs.Replies.{rowBytes, rowOf, stampedSays, postedSays, keptSays, blank, Beside}
+use Rattle.rules.proofs.Bounded.{no-local, no-send, no-receive, no-reset, no-keep}
+use Rattle.book.specs.Layout.{setupOf, rowAt, Holds, post}
+use Rattle.book.specs.Sound.{sound}
+use Rattle.book.specs.Codec.{write}
+use Rattle.book.specs.Answers.{answerTo, bookAfter}
+use Rattle.book.specs.Numbers.{tablesOf, numberOf}
+use Rattle.book.proofs.Codec.{decode-holds}
+use Rattle.book.proofs.Rows.{rows-alike}
+use Rattle.book.proofs.Puts.{seat-put, mail-put, slot-put}
+use Rattle.book.proofs.Numbers.{doneOn, answer-number, refused-answer, refused-bytes, ready, accepted-answer, accepted-bytes}
+use Rattle.book.proofs.Stamped.{Eight, row-of-bytes, seat-put-eight, merged-eight}
+use Rattle.book.proofs.Told.{seat-row, read-at, few-desks}
+use Rattle.rows.specs.Rows.{AtDesk, Grows, grownRow, turnedRow, mergedRow}
+use Rattle.rows.proofs.Rows.{at-desk, grows}
+use Rattle.refusals.proofs.Held.{used-below}
+
+-- the number n alone, and the bytes b
+abbrev pub Files : List ℕ → Act → ℕ → List ℕ → Type 0
+Files s c n b = (refusal n ≡ answerTo s (on c)) × (b ≡ bookAfter s (on c))
+
+-- a number with a stamp beside it
+abbrev pub Stamps : List ℕ → Act → Stamped → List ℕ → Type 0
+Stamps s c r b = (stampedSays r ≡ answerTo s (on c)) × (Beside (r .number) (r .stamp) × (b ≡ bookAfter s (on c)))
+
+-- a place with a stamp beside it
+abbrev pub Sends : List ℕ → Act → Posted → Stamp → List ℕ → Type 0
+Sends s c p x b = (postedSays p x ≡ answerTo s (on c)) × (Beside (answerTo s (on c) .number) x × (b ≡ bookAfter s (on c)))
+
+-- a slot
+abbrev pub Keeping : List ℕ → Act → Kept → List ℕ → Type 0
+Keeping s c k b = (keptSays k ≡ answerTo s (on c)) × (b ≡ bookAfter s (on c))
+
+blank-beside : (n : ℕ) → Beside n blank
+blank-beside zero = tt
+blank-beside (suc n) = refl
+
+done-beside : (n : ℕ) (x : Stamp) → n ≡ 0 → Beside n x
+done-beside zero x e = tt
+done-beside (suc n) x e = absurd (omega arith)
+
+-- refused
+module _ (s : List ℕ) (c : Act) (n : ℕ) (e : n ≡ numberOf s c) (ne : n ≡ 0 → ⊥) where
+  pub refused-files : Files s c n s
+  refused-files = (refused-answer s c n e ne, refused-bytes s c n e ne)
+
+  pub refused-stamps : (r : Stamped) → r ≡ record { number = n; stamp = blank } → Stamps s c r s
+  unfolding stampedSays
+  refused-stamps r q =
+      subst (λ (r : Stamped). Stamps s c r s) (sym q)
+      (rw (ne-eqb n 0 ne) (refused-answer s c n e ne), (blank-beside n, refused-bytes s c n e ne))
+
+  pub refused-sends : (x : Stamp) → x ≡ blank → Sends s c (Posts.Refused n) x s
+  refused-sends x q =
+      subst (λ (x : Stamp). Sends s c (Posts.Refused n) x s) (sym q)
+      (refused-answer s c n e ne, (blank-beside (answerTo s (on c) .number), refused-bytes s c n e ne))
+
+  pub refused-keeping : Keeping s c (Keeps.Refused n) s
+  refused-keeping = (refused-answer s c n e ne, refused-bytes s c n e ne)
+
+-- the tables with the mail as given
+abbrev posted : List ℕ → (ℕ → Option Held) → Tables
+posted s mail = record { seat = tablesOf s .seat; mail = mail; shelf = tablesOf s .shelf }
+
+-- an event at j that leaves row r: b has the mail already, and j's seat is written
+module _ (s : List ℕ) (c : Act) (e : numberOf s c ≡ 0) (j : ℕ) (l : j < 8) (r : Row) (mail : ℕ → Option Held) (v : Value)
+    (d : doneOn s c ≡ event (tablesOf s) j r mail v) (b : List ℕ) (h : Holds (write (record { setup = setupOf s; tables = posted s mail })) b)
+    (row : List ℕ) (er : row ≡ rowBytes r) where
+  event-left : (b′ : List ℕ) → b′ ≡ post b j 1 0 row → b′ ≡ bookAfter s (on c)
+  event-left b′ eb =
+      eb ∙ ap (post b j 1 0) er
+      ∙ accepted-bytes s c e (post b j 1 0 (rowBytes r))
+      (subst (λ (q : Result). Holds (write (record { setup = setupOf s; tables = q .tables })) (post b j 1 0 (rowBytes r))) (sym d)
+      (seat-put (setupOf s) (posted s mail) b h j l (record { started = true; row = r })))
+
+  row-said : Eight r → rowOf row ≡ r
+  row-said z = ap rowOf er ∙ row-of-bytes r z
+
+  event-said : accepted v ≡ answerTo s (on c)
+  event-said = ap (λ (q : Result). q .answer) (sym d) ∙ accepted-answer s c e
+
+  event-stamps : Eight r → v ≡ stamp j r → (x : Stamp) (b′ : List ℕ) → x ≡ record { owner = j; row = row } → b′ ≡ post b j 1 0 row
+      → Stamps s c (record { number = 0; stamp = x }) b′
+  unfolding stampedSays
+  event-stamps z ev x b′ ex eb = (
+    ap (λ (y : Stamp). accepted (stamp (y .owner) (rowOf (y .row)))) ex
+        ∙ ap (λ (ρ : Row). accepted (stamp j ρ)) (row-said z) ∙ ap accepted (sym ev) ∙ event-said,
+    (tt, event-left b′ eb),
+  )
+
+module _ (s : List ℕ) (j : ℕ) (e : numberOf s (local j) ≡ 0) where
+  pub local-grows : Grows s j
+  local-grows =
+      let r = ready s (local j) e in
+      let n = no-local (ringOf (setupOf s)) (setupOf s) (tablesOf s) j (r .1) in
+      grows s j (r .0) (n .0) (n .1)
+
+  pub local-stamps : (x : Stamp) (row b : List ℕ) → x ≡ record { owner = j; row = row } → row ≡ rowBytes (grownRow s j) → b ≡ post s j 1 0 row
+      → Stamps s (local j) (record { number = 0; stamp = x }) b
+  unfolding done
+  local-stamps x row b ex er eb =
+      let g = local-grows .at in
+      event-stamps s (local j) e j (g .eight) (grownRow s j) (tablesOf s .mail) (stamp j (grownRow s j)) refl s (decode-holds s (g .whole)) row er
+      (seat-put-eight s j (g .eight) _) refl x b ex eb
+
+module _ (s : List ℕ) (j : ℕ) (e : numberOf s (reset j) ≡ 0) where
+  pub reset-at : AtDesk s j
+  reset-at =
+      let r = ready s (reset j) e in
+      at-desk s j (r .0) (no-reset (ringOf (setupOf s)) (setupOf s) (tablesOf s) j (r .1) .0)
+
+  pub reset-stamps : (x : Stamp) (row b : List ℕ) → x ≡ record { owner = j; row = row } → row ≡ rowBytes (turnedRow s j) → b ≡ post s j 1 0 row
+      → Stamps s (reset j) (record { number = 0; stamp = x }) b
+  unfolding done
+  reset-stamps x row b ex er eb =
+      let g = reset-at in
+      event-stamps s (reset j) e j (g .eight) (turnedRow s j) (tablesOf s .mail) (stamp j (turnedRow s j)) refl s (decode-holds s (g .whole)) row er
+      (seat-put-eight s j (g .eight) _) refl x b ex eb
+
+module _ (s : List ℕ) (j p : ℕ) (e : numberOf s (receive j p) ≡ 0) where
+  receive-clear : (j < byte s 2) × (used (tablesOf s .mail p) ≡ true) × (own (tablesOf s) j .clock + 1 < byte s 4) × (p < 32)
+  receive-clear = no-receive (ringOf (setupOf s)) (setupOf s) (tablesOf s) j p (ready s (receive j p) e .1)
+
+  pub receive-grows : Grows s j
+  receive-grows = let n = receive-clear in grows s j (ready s (receive j p) e .0) (n .0) (n .2)
+
+  pub receive-place : p < 32
+  receive-place = receive-clear .3
+
+  pub receive-stamps : (x : Stamp) (row b b′ : List ℕ) → x ≡ record { owner = j; row = row } → row ≡ rowBytes (mergedRow s j p)
+      → b ≡ post s (8 + p) 0 0 (rowBytes zeros) → b′ ≡ post b j 1 0 row
+      → Stamps s (receive j p) (record { number = 0; stamp = x }) b′
+  unfolding done
+  receive-stamps x row b b′ ex er eb eb′ =
+      let g = receive-grows .at in
+      event-stamps s (receive j p) e j (g .eight) (mergedRow s j p) (put (tablesOf s .mail) p none) (stamp j (mergedRow s j p)) refl
+      (post s (8 + p) 0 0 (rowBytes zeros))
+      (mail-put (setupOf s) (tablesOf s) s (decode-holds s (g .whole)) p receive-place none) row er
+      (merged-eight s (ringOf (setupOf s)) j p (g .eight)) refl x b′ ex (eb′ ∙ ap (λ (y : List ℕ). post y j 1 0 row) eb)
+
+module _ (s : List ℕ) (j k : ℕ) (e : numberOf s (send j k) ≡ 0) where
+  send-clear : (j < byte s 2) × (own (tablesOf s) j .clock + 1 < byte s 4) × (freeMail (tablesOf s) < 32) × (k < byte s 2) × (j ≡ k → ⊥)
+  send-clear = no-send (ringOf (setupOf s)) (setupOf s) (tablesOf s) j k (ready s (send j k) e .1)
+
+  pub send-grows : Grows s j
+  send-grows = let n = send-clear in grows s j (ready s (send j k) e .0) (n .0) (n .1)
+
+  pub send-place : freeMail (tablesOf s) < 32
+  send-place = send-clear .2
+
+  pub send-to : k < 8
+  send-to = let n = send-clear in omega (arith, n .3, few-desks s (ready s (send j k) e .0))
+
+  -- the bytes with the row posted to desk k
+  abbrev mailed : List ℕ
+  mailed = post s (8 + freeMail (tablesOf s)) (j + 1) (k + 1) (rowBytes (grownRow s j))
+
+  pub send-sends : (p : ℕ) (x : Stamp) (row b b′ : List ℕ) → p ≡ freeMail (tablesOf s) → x ≡ record { owner = j; row = row }
+      → row ≡ rowBytes (grownRow s j) → b ≡ post s (8 + p) (j + 1) (k + 1) row → b′ ≡ post b j 1 0 row
+      → Sends s (send j k) (Posts.At p) x b′
+  unfolding done
+  send-sends p x row b b′ ep ex er eb eb′ =
+      let g = send-grows .at in
+      let h = mail-put (setupOf s) (tablesOf s) s (decode-holds s (g .whole)) (freeMail (tablesOf s)) send-place
+      (some record { by = j; to = k; row = grownRow s j }) in
+      let mail = put (tablesOf s .mail) (freeMail (tablesOf s)) (some record { by = j; to = k; row = grownRow s j }) in
+      let v = sent (freeMail (tablesOf s)) j (grownRow s j) in (
+        (λ i. accepted (sent (ep i) (ex i .owner) (rowOf (ex i .row))))
+            ∙ ap (λ (ρ : Row). accepted (sent (freeMail (tablesOf s)) j ρ))
+            (row-said s (send j k) e j (g .eight) (grownRow s j) mail v refl mailed h row er (seat-put-eight s j (g .eight) _))
+            ∙ event-said s (send j k) e j (g .eight) (grownRow s j) mail v refl mailed h row er,
+        (
+          done-beside (answerTo s (on (send j k)) .number) x (answer-number s (send j k) ∙ e),
+          event-left s (send j k) e j (g .eight) (grownRow s j) mail v refl mailed h row er b′
+              (eb′ ∙ ap (λ (y : List ℕ). post y j 1 0 row) (eb ∙ (λ i. post s (8 + ep i) (j + 1) (k + 1) (er i)))),
+        ),
+      )
+
+module _ (s : List ℕ) (j : ℕ) (e : numberOf s (keep j) ≡ 0) where
+  keep-clear : (j < byte s 2) × (tablesOf s .seat j .started ≡ true) × (freeSlot (tablesOf s) < 32)
+  keep-clear = no-keep (ringOf (setupOf s)) (setupOf s) (tablesOf s) j (ready s (keep j) e .1)
+
+  pub keep-at : AtDesk s j
+  keep-at = at-desk s j (ready s (keep j) e .0) (keep-clear .0)
+
+  pub keep-slot : freeSlot (tablesOf s) < 32
+  keep-slot = keep-clear .2
+
+  pub keep-keeping : (p : ℕ) (row b : List ℕ) → p ≡ freeSlot (tablesOf s) → row ≡ rowBytes (rowAt s j) → b ≡ post s (40 + p) (j + 1) 0 row
+      → Keeping s (keep j) (Keeps.Slot p) b
+  unfolding done
+  keep-keeping p row b ep er eb =
+      let g = keep-at in
+      let f = freeSlot (tablesOf s) in (
+        ap (λ (q : ℕ). accepted (slot q)) ep ∙ accepted-answer s (keep j) e,
+        eb ∙ (λ i. post s (40 + ep i) (j + 1) 0 (er i))
+            ∙ ap (post s (40 + f) (j + 1) 0)
+            (rows-alike (rowAt s j) (tablesOf s .seat j .row)
+            (λ k l. sym (ap (λ (r : Row). r k) (seat-row s j (g .eight)) ∙ read-at (rowAt s j) k l)))
+            ∙ accepted-bytes s (keep j) e _
+            (slot-put (setupOf s) (tablesOf s) s (decode-holds s (g .whole)) f keep-slot
+            (some record { by = j; to = 0; row = tablesOf s .seat j .row })),
+      )
+
+-- drop and discard
+module _ (s : List ℕ) (p : ℕ) (e : numberOf s (drop p) ≡ 0) where
+  pub drop-whole : sound s ≡ true
+  drop-whole = ready s (drop p) e .0
+
+  pub drop-slot : p < 32
+  unfolding reasons
+  drop-slot = used-below s 40 p (not-off _ (clear (noSlot (tablesOf s) p) 4 _ (ready s (drop p) e .1) .0))
+
+  pub drop-files : (b : List ℕ) → b ≡ post s (40 + p) 0 0 (rowBytes zeros) → Files s (drop p) 0 b
+  unfolding done
+  drop-files b eb = (
+    accepted-answer s (drop p) e,
+    eb ∙ accepted-bytes s (drop p) e _ (slot-put (setupOf s) (tablesOf s) s (decode-holds s drop-whole) p drop-slot none),
+  )
+
+module _ (s : List ℕ) (p : ℕ) (e : numberOf s (discard p) ≡ 0) where
+  pub discard-whole : sound s ≡ true
+  discard-whole = ready s (discard p) e .0
+
+  pub discard-place : p < 32
+  unfolding reasons
+  discard-place = used-below s 8 p (not-off _ (clear (noMail (tablesOf s) p) 4 _ (ready s (discard p) e .1) .0))
+
+  pub discard-files : (b : List ℕ) → b ≡ post s (8 + p) 0 0 (rowBytes zeros) → Files s (discard p) 0 b
+  unfolding done
+  discard-files b eb = (
+    accepted-answer s (discard p) e,
+    eb ∙ accepted-bytes s (discard p) e _ (mail-put (setupOf s) (tablesOf s) s (decode-holds s discard-whole) p discard-place none),
+  )

@@ -1,0 +1,141 @@
+-- A fresh book, record by record, and what start answers and leaves.
+-- Assumes nothing.
+use Prim.Native.Nat.{ℕ, _+_, _*_, _<_, _≤_}
+use mathlib.Core.Path.{_≡_, refl, sym, ap, _∙_, subst}
+use mathlib.Core.Bool.{Bool, true, false}
+use mathlib.Core.List.{List}
+use mathlib.Core.Logic.{⊎-elim}
+use native.Mathlib.Omega.{arith}
+use borrow.Author.Tests.{eq-eqb, ne-eqb}
+use lib.Dec.{ltb}
+use lib.ListN.{length, set, replicate, length-set}
+use lib.Seq.{getD-set-same, getD-set-other}
+use Rattle.tools.specs.Tests.{pick}
+use Rattle.tools.specs.Lists.{byte, tab, Filled}
+use Rattle.tools.proofs.Tests.{and-true-l, lt-or-le}
+use Rattle.rules.specs.declared.Setup.{Setup}
+use Rattle.rules.specs.Setups.{inRange, related, permits}
+use Rattle.rules.specs.Model.{refusal, zeros, fresh}
+use Rattle.rules.specs.Calls.{start, call, freshBook}
+use Rattle.rules.specs.Replies.{rowByte, rowBytes}
+use Rattle.rules.proofs.Setups.{Ranged, ranged}
+use Rattle.book.specs.Layout.{Record, spot, headByte, mark0, mark1, recordByte, post}
+use Rattle.book.specs.Codec.{recordOf, write, encode}
+use Rattle.book.specs.Answers.{admits, answerTo, bookAfter}
+use Rattle.book.proofs.Bytes.{record-bytes, layout-is}
+use Rattle.book.proofs.Posted.{post-length, post-head, post-other, post-A, post-B, post-row}
+use Rattle.portal.specs.Fresh.{freed}
+
+pub zero-bytes : replicate 16 0 ≡ rowBytes zeros
+unfolding rowBytes rowByte tab
+zero-bytes = refl
+
+pub filled-from : (n c : ℕ) (f g : ℕ → ℕ) (l : List ℕ) → Filled n c f l → ((i : ℕ) → i < c → f i ≡ g i) → Filled n c g l
+filled-from n c f g l h e = record { size = h .size; at = λ i m. h .at i m ∙ e i m }
+
+-- every setup number fits a byte
+pub fits : (X : Setup) → permits X ≡ true → Ranged X
+unfolding permits
+fits X h = ranged X (and-true-l (inRange X) (related X) h)
+
+-- a fresh record is its mark and zeros
+abbrev none : Record
+none = record { tagA = 0; tagB = 0; row = zeros }
+
+fresh-record : (k : ℕ) → recordOf fresh k ≡ none
+fresh-record k = go (ltb k 8) (ltb k 40)
+  where
+    go : (t u : Bool) → pick t none (pick u none none) ≡ none
+    go true u = refl
+    go false true = refl
+    go false false = refl
+
+-- the first sixteen bytes are f's, and the first n records are fresh
+pub record Written (f : ℕ → ℕ) (n : ℕ) (b : List ℕ) : Type 0 where
+  pub size : length b ≡ 1456
+  pub head : (i : ℕ) → i < 16 → f i ≡ byte b i
+  pub there : (k c : ℕ) → k < n → c < 20 → recordByte k none c ≡ byte b (spot k c)
+
+pub written-none : (b : List ℕ) → length b ≡ 1456 → Written (byte b) 0 b
+written-none b e = record { size = e; head = λ i l. refl; there = λ k c l m. absurd (omega arith) }
+
+module _ (b : List ℕ) (size : length b ≡ 1456) (n : ℕ) (l : n < 72) where
+  abbrev cleared : List ℕ
+  cleared = post b n 0 0 (rowBytes zeros)
+
+  abbrev marked : List ℕ
+  marked = set cleared (16 + 20 * n) (mark0 n)
+
+  cleared-length : length cleared ≡ 1456
+  cleared-length = post-length b size n 0 0 l zeros
+
+  marked-length : length marked ≡ 1456
+  marked-length = length-set cleared (16 + 20 * n) (mark0 n) ∙ cleared-length
+
+  pub freed-length : length (freed b n) ≡ 1456
+  freed-length = length-set marked (16 + 20 * n + 1) (mark1 n) ∙ marked-length
+
+  -- a byte that is none of the mark
+  past-mark : (i : ℕ) → (i ≡ 16 + 20 * n → ⊥) → (i ≡ 16 + 20 * n + 1 → ⊥) → byte cleared i ≡ byte (freed b n) i
+  past-mark i n0 n1 =
+      sym (getD-set-other marked (16 + 20 * n + 1) i (mark1 n) 0 n1 ∙ getD-set-other cleared (16 + 20 * n) i (mark0 n) 0 n0)
+
+  freed-here : (c : ℕ) → c < 20 → recordByte n none c ≡ byte (freed b n) (spot n c)
+  freed-here =
+      record-bytes n none (λ c v. v ≡ byte (freed b n) (spot n c))
+      (let e : 16 + 20 * n ≡ spot n 0 = omega arith in
+      sym (getD-set-same cleared (16 + 20 * n) (mark0 n) 0 (omega (arith, cleared-length)))
+      ∙ sym (getD-set-other marked (16 + 20 * n + 1) (16 + 20 * n) (mark1 n) 0 (omega arith)) ∙ ap (byte (freed b n)) e)
+      (sym (getD-set-same marked (16 + 20 * n + 1) (mark1 n) 0 (omega (arith, marked-length))))
+      (sym (post-A b size n 0 0 l zeros) ∙ past-mark (spot n 2) (omega arith) (omega arith))
+      (sym (post-B b size n 0 0 l zeros) ∙ past-mark (spot n 3) (omega arith) (omega arith))
+      (λ c m. sym (post-row b size n 0 0 l zeros c m) ∙ past-mark (spot n (4 + c)) (omega arith) (omega arith))
+
+pub written-more : (f : ℕ → ℕ) (n : ℕ) (b : List ℕ) → Written f n b → n < 72 → Written f (n + 1) (freed b n)
+written-more f n b h l =
+    record {
+      size = freed-length b (h .size) n l;
+      head =
+          λ i m. h .head i m ∙ sym (post-head b (h .size) n 0 0 l zeros i m)
+          ∙ past-mark b (h .size) n l i (omega arith) (omega arith);
+      there =
+          λ k c lk lc.
+          ⊎-elim (λ (m : k < n).
+          h .there k c m lc ∙ sym (post-other b (h .size) n 0 0 l zeros k c lc (λ e z. omega arith))
+          ∙ past-mark b (h .size) n l (spot k c) (omega arith) (omega arith))
+          (λ (m : n ≤ k).
+          let e : n ≡ k = omega arith in
+          subst (λ (i : ℕ). recordByte i none c ≡ byte (freed b n) (spot i c)) e (freed-here b (h .size) n l c lc)) (lt-or-le k n);
+    }
+
+pub written-all : (X : Setup) (old b : List ℕ) → Filled 1456 16 (headByte X) old → Written (byte old) 72 b → b ≡ encode (freshBook X)
+written-all X old b head h =
+    sym (layout-is (write (freshBook X)) b
+    (record {
+      size = h .size;
+      head = λ i l. sym (head .at i l) ∙ h .head i l;
+      there = λ k c lk lc. ap (λ (r : Record). recordByte k r c) (fresh-record k) ∙ h .there k c lk lc;
+    }))
+
+-- start refuses a bad length, then a bad setup
+module _ (s : List ℕ) (X : Setup) where
+  abbrev pub Starts : ℕ → List ℕ → Type 0
+  Starts n b = (refusal n ≡ answerTo s (start X)) × (b ≡ bookAfter s (start X))
+
+  pub start-badbook : (length s ≡ 1456 → ⊥) → Starts 1 s
+  unfolding answerTo bookAfter admits
+  start-badbook n = (rw (answerTo, admits, ne-eqb (length s) 1456 n), rw (bookAfter, answerTo, admits, ne-eqb (length s) 1456 n))
+
+  pub start-badsetup : length s ≡ 1456 → permits X ≡ false → Starts 2 s
+  unfolding answerTo bookAfter admits call
+  start-badsetup e p = (
+    rw (answerTo, admits, eq-eqb (length s) 1456 e, call, p),
+    rw (bookAfter, answerTo, admits, eq-eqb (length s) 1456 e, call, p),
+  )
+
+  pub start-done : length s ≡ 1456 → permits X ≡ true → Starts 0 (encode (freshBook X))
+  unfolding answerTo bookAfter admits call
+  start-done e p = (
+    rw (answerTo, admits, eq-eqb (length s) 1456 e, call, p),
+    rw (bookAfter, answerTo, admits, eq-eqb (length s) 1456 e, call, p),
+  )

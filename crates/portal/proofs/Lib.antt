@@ -1,0 +1,4 @@
+-- The laws of the calls.
+pub mod Fresh
+pub mod Acts
+pub mod Once

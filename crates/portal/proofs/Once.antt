@@ -1,0 +1,136 @@
+-- Two answers that meet the statement of a call are equal.
+-- Assumes nothing.
+use Prim.Native.Nat.{ℕ, zero, suc}
+use mathlib.Core.Path.{_≡_, refl, sym, ap, _∙_, subst}
+use mathlib.Core.List.{List}
+use native.Mathlib.Omega.{arith}
+use borrow.Author.Tests.{ne-eqb}
+use lib.Dec.{eqb}
+use lib.ListN.{length}
+use Rattle.tools.specs.Tests.{pick}
+use Rattle.rules.specs.declared.Stamp.{Stamp}
+use Rattle.rules.specs.declared.Stamped.{Stamped}
+use Rattle.rules.specs.declared.Sent.{Sent}
+use Rattle.rules.specs.declared.Posted.{Posted}
+use Rattle.rules.specs.declared.Posted.the-variants as Posts
+use Rattle.rules.specs.declared.Kept.{Kept}
+use Rattle.rules.specs.declared.Kept.the-variants as Keeps
+use Rattle.rules.specs.declared.Told.{Told}
+use Rattle.rules.specs.declared.Told.the-variants as Tells
+use Rattle.rules.specs.declared.Compared.{Compared}
+use Rattle.rules.specs.declared.Compared.the-variants as Compares
+use Rattle.rules.specs.Model.{send, stamp, Value, Answer, refusal, accepted, done}
+use Rattle.rules.specs.Calls.{on}
+use Rattle.rules.specs.Replies.{rowBytes, rowOf, stampedSays, postedSays, keptSays, toldSays, comparedSays, blank, Beside}
+use Rattle.book.specs.Answers.{answerTo}
+use Rattle.book.proofs.Numbers.{answer-number, accepted-answer}
+use Rattle.book.proofs.Stamped.{bytes-of-row}
+
+same-value : (a b : Answer) → a ≡ b → a .value ≡ b .value
+same-value a b e = ap (λ (a : Answer). a .value) e
+
+-- start, drop and discard
+pub number-once : (n n′ : ℕ) → refusal n ≡ refusal n′ → n ≡ n′
+number-once n n′ e = ap (λ (a : Answer). a .number) e
+
+-- keep
+pub kept-once : (r r′ : Kept) → keptSays r ≡ keptSays r′ → r ≡ r′
+kept-once (Keeps.Slot s) (Keeps.Slot s′) e = let v = same-value _ _ e in cc
+kept-once (Keeps.Slot s) (Keeps.Refused n) e = let v = same-value _ _ e in cc
+kept-once (Keeps.Refused n) (Keeps.Slot s) e = let v = same-value _ _ e in cc
+kept-once (Keeps.Refused n) (Keeps.Refused n′) e = let n = number-once _ _ e in cc
+
+-- before
+pub told-once : (r r′ : Told) → toldSays r ≡ toldSays r′ → r ≡ r′
+told-once Tells.Yes Tells.Yes e = refl
+told-once Tells.Yes Tells.No e = let v = same-value _ _ e in cc
+told-once Tells.Yes (Tells.Refused n) e = let v = same-value _ _ e in cc
+told-once Tells.No Tells.Yes e = let v = same-value _ _ e in cc
+told-once Tells.No Tells.No e = refl
+told-once Tells.No (Tells.Refused n) e = let v = same-value _ _ e in cc
+told-once (Tells.Refused n) Tells.Yes e = let v = same-value _ _ e in cc
+told-once (Tells.Refused n) Tells.No e = let v = same-value _ _ e in cc
+told-once (Tells.Refused n) (Tells.Refused n′) e = let n = number-once _ _ e in cc
+
+-- compare
+pub compared-once : (r r′ : Compared) → comparedSays r ≡ comparedSays r′ → r ≡ r′
+compared-once (Compares.Is x) (Compares.Is x′) e = let v = same-value _ _ e in cc
+compared-once (Compares.Is x) (Compares.Refused n) e = let v = same-value _ _ e in cc
+compared-once (Compares.Refused n) (Compares.Is x) e = let v = same-value _ _ e in cc
+compared-once (Compares.Refused n) (Compares.Refused n′) e = let n = number-once _ _ e in cc
+
+-- a stamp, of sixteen row bytes
+row-once : (l l′ : List ℕ) → length l ≡ 16 → length l′ ≡ 16 → rowOf l ≡ rowOf l′ → l ≡ l′
+row-once l l′ n n′ e = sym (bytes-of-row l n) ∙ ap rowBytes e ∙ bytes-of-row l′ n′
+
+stamp-once : (x x′ : Stamp) → length (x .row) ≡ 16 → length (x′ .row) ≡ 16 → x .owner ≡ x′ .owner → rowOf (x .row) ≡ rowOf (x′ .row) → x ≡ x′
+stamp-once x x′ n n′ o e = let r = row-once (x .row) (x′ .row) n n′ e in λ i. record { owner = o i; row = r i }
+
+-- local, receive and reset
+said : (n : ℕ) (v : Value) → (pick (eqb n 0) (accepted v) (refusal n)) .number ≡ n
+said zero v = refl
+said (suc n) v = rw (ne-eqb (suc n) 0 (omega arith))
+
+pub stamped-once : (r r′ : Stamped) → stampedSays r ≡ stampedSays r′ → Beside (r .number) (r .stamp) → Beside (r′ .number) (r′ .stamp)
+    → length (r .stamp .row) ≡ 16 → length (r′ .stamp .row) ≡ 16 → r ≡ r′
+unfolding stampedSays
+stamped-once r r′ e b b′ l l′ =
+    go (r .number) (r .stamp) (r′ .number) (r′ .stamp)
+    (sym (said (r .number) _) ∙ ap (λ (a : Answer). a .number) e ∙ said (r′ .number) _) e b b′ l l′
+  where
+    go : (n : ℕ) (x : Stamp) (n′ : ℕ) (x′ : Stamp) → n ≡ n′
+        → pick (eqb n 0) (accepted (stamp (x .owner) (rowOf (x .row)))) (refusal n)
+        ≡ pick (eqb n′ 0) (accepted (stamp (x′ .owner) (rowOf (x′ .row)))) (refusal n′)
+        → Beside n x → Beside n′ x′ → length (x .row) ≡ 16 → length (x′ .row) ≡ 16
+        → _≡_ {A = Stamped} (record { number = n; stamp = x }) (record { number = n′; stamp = x′ })
+    go zero x zero x′ m e b b′ l l′ =
+        let v = same-value _ _ e in
+        let o : x .owner ≡ x′ .owner = cc in
+        let q : rowOf (x .row) ≡ rowOf (x′ .row) = cc in
+        ap (λ (y : Stamp). record { number = 0; stamp = y }) (stamp-once x x′ l l′ o q)
+    go zero x (suc n′) x′ m e b b′ l l′ = absurd (omega arith)
+    go (suc n) x zero x′ m e b b′ l l′ = absurd (omega arith)
+    go (suc n) x (suc n′) x′ m e b b′ l l′ =
+        let q = b ∙ sym b′ in
+        λ i. record { number = m i; stamp = q i }
+
+-- send: an accepted one has a place
+module _ (s : List ℕ) (j k : ℕ) where
+  placed : refusal 0 ≡ answerTo s (on (send j k)) → ⊥
+  unfolding done
+  placed e =
+      let n = sym (answer-number s (send j k)) ∙ ap (λ (a : Answer). a .number) (sym e) in
+      let v = same-value _ _ (e ∙ sym (accepted-answer s (send j k) n)) in
+      let z : _≡_ {A = ℕ} 0 1 = cc in
+      omega arith
+
+  -- what one answer to a send says
+  pub record Says (r : Sent) : Type 0 where
+    pub place : postedSays (r .place) (r .stamp) ≡ answerTo s (on (send j k))
+    pub beside : Beside (answerTo s (on (send j k)) .number) (r .stamp)
+    pub size : length (r .stamp .row) ≡ 16
+
+  blank-refused : (n : ℕ) (x : Stamp) → refusal n ≡ answerTo s (on (send j k)) → Beside (answerTo s (on (send j k)) .number) x → x ≡ blank
+  blank-refused zero x e b = absurd (placed e)
+  blank-refused (suc n) x e b = subst (λ (a : Answer). Beside (a .number) x) (sym e) b
+
+  pub sent-once : (r r′ : Sent) → Says r → Says r′ → r ≡ r′
+  sent-once r r′ q q′ =
+      go (r .place) (r .stamp) (r′ .place) (r′ .stamp) (q .place) (q′ .place) (q .beside) (q′ .beside) (q .size) (q′ .size)
+    where
+      go : (p : Posted) (x : Stamp) (p′ : Posted) (x′ : Stamp) → postedSays p x ≡ answerTo s (on (send j k)) → postedSays p′ x′ ≡ answerTo s (on (send j k))
+          → Beside (answerTo s (on (send j k)) .number) x → Beside (answerTo s (on (send j k)) .number) x′
+          → length (x .row) ≡ 16 → length (x′ .row) ≡ 16
+          → _≡_ {A = Sent} (record { place = p; stamp = x }) (record { place = p′; stamp = x′ })
+      go (Posts.At p) x (Posts.At p′) x′ e e′ b b′ l l′ =
+          let v = same-value _ _ (e ∙ sym e′) in
+          let m : p ≡ p′ = cc in
+          let o : x .owner ≡ x′ .owner = cc in
+          let t = stamp-once x x′ l l′ o (let z : rowOf (x .row) ≡ rowOf (x′ .row) = cc in z) in
+          λ i. record { place = Posts.At (m i); stamp = t i }
+      go (Posts.At p) x (Posts.Refused n) x′ e e′ b b′ l l′ = let v = same-value _ _ (e ∙ sym e′) in cc
+      go (Posts.Refused n) x (Posts.At p) x′ e e′ b b′ l l′ = let v = same-value _ _ (e ∙ sym e′) in cc
+      go (Posts.Refused n) x (Posts.Refused n′) x′ e e′ b b′ l l′ =
+          let m = number-once n n′ (e ∙ sym e′) in
+          let t = blank-refused n x e b ∙ sym (blank-refused n′ x′ e′ b′) in
+          λ i. record { place = Posts.Refused (m i); stamp = t i }

@@ -1,0 +1,2 @@
+-- A fresh record.
+pub mod Fresh

@@ -1,0 +1,267 @@
+// The calls on a book: each answers what the rules say, on any bytes, and leaves every byte that they say.
+ghost use mathlib.Core.Path.{_≡_};
+ghost use mathlib.Core.Bool.{true};
+ghost use Prim.Native.Nat.{_<_};
+ghost use lib.ListN.{length};
+ghost use Rattle.tools.specs.Lists.{tab, Filled};
+ghost use Rattle.rules.specs.Setups.{permits};
+ghost use Rattle.rules.specs.Model;
+ghost use Rattle.rules.specs.Model.{refusal, zeros};
+ghost use Rattle.rules.specs.Calls;
+ghost use Rattle.rules.specs.Calls.{on, freshBook};
+ghost use Rattle.rules.specs.Replies.{rowBytes, stampedSays, postedSays, keptSays, blank, Beside};
+ghost use Rattle.book.specs.Layout;
+ghost use Rattle.book.specs.Layout.{headByte};
+ghost use Rattle.book.specs.Codec.{encode};
+ghost use Rattle.book.specs.Answers.{answerTo, bookAfter};
+ghost use Rattle.portal.specs.Fresh.{freed};
+use rules::Kept;
+use rules::Posted;
+use rules::Sent;
+use rules::Setup;
+use rules::Stamp;
+use rules::Stamped;
+
+// A seat's first tag once it has started; a free place or slot has a zero there.
+const STARTED: u8 = 1;
+
+const FREE: u8 = 0;
+
+// The filler of a tag that says nothing.
+const FILLER: u8 = 0;
+
+fn no_stamp() -> Stamp
+    ensures { λ r. ⌜ r ≡ blank ⌝ }
+{
+    Stamp {
+        owner: 0,
+        row: [0u8; 16],
+    }
+}
+
+fn refused(number: u8) -> Stamped
+    ensures { λ r. ⌜ r ≡ record { number = number; stamp = blank } ⌝ }
+{
+    let stamp = no_stamp();
+    Stamped {
+        number: number,
+        stamp: stamp,
+    }
+}
+
+fn clear(book: &mut [u8], k: usize)
+    requires { ⌜ length (now book) ≡ 1456 ⌝ }
+    requires { ⌜ k < 72 ⌝ }
+    ensures { λ _. ⌜ now (book .exit) ≡ Layout.post (now (book .entry)) k 0 0 (rowBytes zeros) ⌝ }
+{
+    parts::post(book, k, FREE, FILLER, [0u8; 16]);
+}
+
+fn take_row(book: &mut [u8], desk: usize, row: [u8; 16]) -> Stamp
+    requires { ⌜ length (now book) ≡ 1456 ⌝ }
+    requires { ⌜ desk < 8 ⌝ }
+    ensures { λ r. ⌜ r ≡ record { owner = desk; row = row } ⌝ }
+    ensures { λ _. ⌜ now (book .exit) ≡ Layout.post (now (book .entry)) desk 1 0 row ⌝ }
+{
+    parts::post(book, desk, STARTED, FILLER, row);
+    Stamp {
+        owner: desk as u8,
+        row: row,
+    }
+}
+
+fn head_of(s: Setup) -> [u8; 16]
+    requires { ⌜ permits s ≡ true ⌝ }
+    ensures { λ r. ⌜ r ≡ tab 0 16 (headByte s) ⌝ }
+{
+    [
+        0x42,
+        0x4B,
+        s.desks as u8,
+        s.phases as u8,
+        s.clocks as u8,
+        s.seatLag as u8,
+        s.shelfLag as u8,
+        s.back as u8,
+        s.ahead as u8,
+        0,
+        0,
+        0,
+        0,
+        0,
+        0,
+        0,
+    ]
+}
+
+fn write_head(book: &mut [u8], s: Setup)
+    requires { ⌜ length (now book) ≡ 1456 ⌝ }
+    requires { ⌜ permits s ≡ true ⌝ }
+    ensures { λ _. ⌜ Filled 1456 16 (headByte s) (now (book .exit)) ⌝ }
+{
+    let head = head_of(s);
+    let mut i: usize = 0;
+    while i < 16 {
+        book[i] = head[i];
+        i += 1;
+    }
+}
+
+fn write_free(book: &mut [u8], k: usize)
+    requires { ⌜ length (now book) ≡ 1456 ⌝ }
+    requires { ⌜ k < 72 ⌝ }
+    ensures { λ _. ⌜ now (book .exit) ≡ freed (now (book .entry)) k ⌝ }
+{
+    clear(book, k);
+    book[16 + 20 * k] = parts::first_mark(k);
+    book[16 + 20 * k + 1] = parts::second_mark(k);
+}
+
+fn write_fresh(book: &mut [u8], s: Setup)
+    requires { ⌜ length (now book) ≡ 1456 ⌝ }
+    requires { ⌜ permits s ≡ true ⌝ }
+    ensures { λ _. ⌜ now (book .exit) ≡ encode (freshBook s) ⌝ }
+{
+    write_head(book, s);
+    let mut k: usize = 0;
+    while k < 72 {
+        write_free(book, k);
+        k += 1;
+    }
+}
+
+// Start writes a fresh book, whatever the bytes were: rows zero, no seat started, all places free.
+pub fn start(book: &mut [u8], s: Setup) -> u8
+    ensures { λ r. ⌜ refusal r ≡ answerTo (now (book .entry)) (Calls.start s) ⌝ }
+    ensures { λ _. ⌜ now (book .exit) ≡ bookAfter (now (book .entry)) (Calls.start s) ⌝ }
+{
+    if book.len() != 1456 {
+        return rules::BAD_BOOK;
+    }
+    if !rules::permits(s) {
+        return rules::BAD_SETUP;
+    }
+    write_fresh(book, s);
+    rules::DONE
+}
+
+// Local at a desk: its own clock grows by 1.
+pub fn local(book: &mut [u8], desk: usize) -> Stamped
+    ensures { λ r. ⌜ stampedSays r ≡ answerTo (now (book .entry)) (on (Model.local desk)) ⌝ }
+    ensures { λ r. ⌜ Beside (r .number) (r .stamp) ⌝ }
+    ensures { λ _. ⌜ now (book .exit) ≡ bookAfter (now (book .entry)) (on (Model.local desk)) ⌝ }
+{
+    let n = refusals::local_number(&book[..], desk);
+    if n != rules::DONE {
+        return refused(n);
+    }
+    let row = rows::grown_row(&book[..], desk);
+    let stamp = take_row(book, desk, row);
+    Stamped {
+        number: rules::DONE,
+        stamp: stamp,
+    }
+}
+
+// Send from a desk to another: as local, then the row goes into the lowest free mail place.
+pub fn send(book: &mut [u8], desk: usize, to: usize) -> Sent
+    ensures { λ r. ⌜ postedSays (r .place) (r .stamp) ≡ answerTo (now (book .entry)) (on (Model.send desk to)) ⌝ }
+    ensures { λ r. ⌜ Beside (answerTo (now (book .entry)) (on (Model.send desk to)) .number) (r .stamp) ⌝ }
+    ensures { λ _. ⌜ now (book .exit) ≡ bookAfter (now (book .entry)) (on (Model.send desk to)) ⌝ }
+{
+    let n = refusals::send_number(&book[..], desk, to);
+    if n != rules::DONE {
+        let stamp = no_stamp();
+        return Sent {
+            place: Posted::Refused(n),
+            stamp: stamp,
+        };
+    }
+    let p = refusals::free_from(&book[..], rows::MAIL);
+    let row = rows::grown_row(&book[..], desk);
+    parts::post(book, rows::MAIL + p, (desk + 1) as u8, (to + 1) as u8, row);
+    let stamp = take_row(book, desk, row);
+    Sent {
+        place: Posted::At(p as u8),
+        stamp: stamp,
+    }
+}
+
+// Receive at a desk from a place: its own clock grows by 1; for every other desk, the later of the two pairs; the place is free.
+pub fn receive(book: &mut [u8], desk: usize, place: usize) -> Stamped
+    ensures { λ r. ⌜ stampedSays r ≡ answerTo (now (book .entry)) (on (Model.receive desk place)) ⌝ }
+    ensures { λ r. ⌜ Beside (r .number) (r .stamp) ⌝ }
+    ensures { λ _. ⌜ now (book .exit) ≡ bookAfter (now (book .entry)) (on (Model.receive desk place)) ⌝ }
+{
+    let n = refusals::receive_number(&book[..], desk, place);
+    if n != rules::DONE {
+        return refused(n);
+    }
+    let row = rows::merged_row(&book[..], desk, place);
+    let from = rows::MAIL + place;
+    clear(book, from);
+    let stamp = take_row(book, desk, row);
+    Stamped {
+        number: rules::DONE,
+        stamp: stamp,
+    }
+}
+
+// Reset at a desk: its own phase grows by 1 modulo P and its own clock becomes 0. No other seat changes.
+pub fn reset(book: &mut [u8], desk: usize) -> Stamped
+    ensures { λ r. ⌜ stampedSays r ≡ answerTo (now (book .entry)) (on (Model.reset desk)) ⌝ }
+    ensures { λ r. ⌜ Beside (r .number) (r .stamp) ⌝ }
+    ensures { λ _. ⌜ now (book .exit) ≡ bookAfter (now (book .entry)) (on (Model.reset desk)) ⌝ }
+{
+    let n = refusals::reset_number(&book[..], desk);
+    if n != rules::DONE {
+        return refused(n);
+    }
+    let row = rows::turned_row(&book[..], desk);
+    let stamp = take_row(book, desk, row);
+    Stamped {
+        number: rules::DONE,
+        stamp: stamp,
+    }
+}
+
+// Keep at a desk copies its present row to the lowest free slot.
+pub fn keep(book: &mut [u8], desk: usize) -> Kept
+    ensures { λ r. ⌜ keptSays r ≡ answerTo (now (book .entry)) (on (Model.keep desk)) ⌝ }
+    ensures { λ _. ⌜ now (book .exit) ≡ bookAfter (now (book .entry)) (on (Model.keep desk)) ⌝ }
+{
+    let n = refusals::keep_number(&book[..], desk);
+    if n != rules::DONE {
+        return Kept::Refused(n);
+    }
+    let s = refusals::free_from(&book[..], rows::SHELF);
+    let row = rows::row_array(&book[..], desk);
+    parts::post(book, rows::SHELF + s, (desk + 1) as u8, FILLER, row);
+    Kept::Slot(s as u8)
+}
+
+// Drop frees a slot.
+pub fn drop(book: &mut [u8], slot: usize) -> u8
+    ensures { λ r. ⌜ refusal r ≡ answerTo (now (book .entry)) (on (Model.drop slot)) ⌝ }
+    ensures { λ _. ⌜ now (book .exit) ≡ bookAfter (now (book .entry)) (on (Model.drop slot)) ⌝ }
+{
+    let n = refusals::drop_number(&book[..], slot);
+    if n != rules::DONE {
+        return n;
+    }
+    clear(book, rows::SHELF + slot);
+    rules::DONE
+}
+
+// Discard frees a mail place.
+pub fn discard(book: &mut [u8], place: usize) -> u8
+    ensures { λ r. ⌜ refusal r ≡ answerTo (now (book .entry)) (on (Model.discard place)) ⌝ }
+    ensures { λ _. ⌜ now (book .exit) ≡ bookAfter (now (book .entry)) (on (Model.discard place)) ⌝ }
+{
+    let n = refusals::discard_number(&book[..], place);
+    if n != rules::DONE {
+        return n;
+    }
+    clear(book, rows::MAIL + place);
+    rules::DONE
+}
