@@ -46,9 +46,9 @@ row-at b k c =
     let j : spot k (5 + 2 * (c / 2)) ≡ spot k (4 + c) = omega arith in
     rw (ne-eqb _ _ e) (ap (byte b) j)) (eq-or-ne (c % 2) 0)
 
-record-row : (k : ℕ) (r : Record) (c : ℕ) → recordByte k r (4 + c) ≡ rowByte (r .row) c
+pub marked-row : (x y : ℕ) (r : Record) (c : ℕ) → markedByte x y r (4 + c) ≡ rowByte (r .row) c
 unfolding markedByte
-record-row k r c =
+marked-row x y r c =
     let e : 4 + c - 4 ≡ c = omega arith in
     rw (
       ne-eqb (4 + c) 0 (omega arith),
@@ -59,16 +59,24 @@ record-row k r c =
     )
 
 -- byte by byte, a record is its mark, its tags and its row
+pub marked-bytes : (x y : ℕ) (r : Record) (Q : ℕ → ℕ → Type 0) → Q 0 x → Q 1 y → Q 2 (r .tagA) → Q 3 (r .tagB)
+    → ((c : ℕ) → c < 16 → Q (4 + c) (rowByte (r .row) c)) → (c : ℕ) → c < 20 → Q c (markedByte x y r c)
+unfolding markedByte
+marked-bytes x y r Q q0 q1 q2 q3 q4 zero l = q0
+marked-bytes x y r Q q0 q1 q2 q3 q4 (suc zero) l = q1
+marked-bytes x y r Q q0 q1 q2 q3 q4 (suc (suc zero)) l = q2
+marked-bytes x y r Q q0 q1 q2 q3 q4 (suc (suc (suc zero))) l = q3
+marked-bytes x y r Q q0 q1 q2 q3 q4 (suc (suc (suc (suc c)))) l =
+    let e : 4 + c ≡ suc (suc (suc (suc c))) = omega arith in
+    subst (λ n. Q n (markedByte x y r n)) e (subst (Q (4 + c)) (sym (marked-row x y r c)) (q4 c (omega arith)))
+
+-- the same of a record of the book
+record-row : (k : ℕ) (r : Record) (c : ℕ) → recordByte k r (4 + c) ≡ rowByte (r .row) c
+record-row k = marked-row (mark0 k) (mark1 k)
+
 pub record-bytes : (k : ℕ) (r : Record) (Q : ℕ → ℕ → Type 0) → Q 0 (mark0 k) → Q 1 (mark1 k) → Q 2 (r .tagA) → Q 3 (r .tagB)
     → ((c : ℕ) → c < 16 → Q (4 + c) (rowByte (r .row) c)) → (c : ℕ) → c < 20 → Q c (recordByte k r c)
-unfolding markedByte
-record-bytes k r Q q0 q1 q2 q3 q4 zero l = q0
-record-bytes k r Q q0 q1 q2 q3 q4 (suc zero) l = q1
-record-bytes k r Q q0 q1 q2 q3 q4 (suc (suc zero)) l = q2
-record-bytes k r Q q0 q1 q2 q3 q4 (suc (suc (suc zero))) l = q3
-record-bytes k r Q q0 q1 q2 q3 q4 (suc (suc (suc (suc c)))) l =
-    let e : 4 + c ≡ suc (suc (suc (suc c))) = omega arith in
-    subst (λ n. Q n (recordByte k r n)) e (subst (Q (4 + c)) (sym (record-row k r c)) (q4 c (omega arith)))
+record-bytes k = marked-bytes (mark0 k) (mark1 k)
 
 -- the bytes that hold fields are those of the fields
 module _ (f : Fields) (b : List ℕ) (h : Holds f b) where

@@ -18,7 +18,7 @@ pub struct Way {
 
 // Whether a question is out of reach: d does not lie from -(m-1) to n-1.
 pub fn out_of_reach(s: Setup, w: Way) -> bool
-    requires { ⌜ (s .back ≤ 127) × (s .ahead ≤ 127) ⌝ }
+    requires { ⌜ (s .back ≤ 255) × (s .ahead ≤ 255) ⌝ }
     ensures { λ r. ⌜ r ≡ isOut (near s (gapOf w)) ⌝ }
 {
     let up = tools::wide(w.up);
