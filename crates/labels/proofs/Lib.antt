@@ -1,0 +1,3 @@
+-- The laws of stamp records and of the calls off the book.
+pub mod Records
+pub mod Answered

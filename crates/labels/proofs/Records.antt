@@ -1,0 +1,155 @@
+-- Stamp records, byte by byte, and their round trips.
+-- Assumes nothing.
+use Prim.Native.Nat.{ℕ, _+_, _*_, _<_, _≤_}
+use mathlib.Core.Path.{_≡_, refl, sym, ap, _∙_, fun-ext}
+use mathlib.Core.Bool.{Bool, true, false}
+use mathlib.Core.Option.{none, some}
+use mathlib.Core.List.{List, [], _∷_}
+use mathlib.Core.Logic.{⊎-elim}
+use native.Mathlib.Omega.{arith}
+use borrow.Author.Tests.{eqb-true, eq-eqb, ltb-true, lt-ltb, le-ltb}
+use lib.Dec.{ltb, eqb}
+use lib.ListN.{length, drop, length-drop}
+use lib.Seq.{getD-drop}
+use Rattle.tools.specs.Tests.{pick, allOf}
+use Rattle.tools.specs.Lists.{byte, tab}
+use Rattle.tools.proofs.Tests.{each, all-at, all-in, lt-or-le}
+use Rattle.tools.proofs.Lists.{length-tab, tab-at, is-tab}
+use Rattle.ring.specs.Phases.{Pair}
+use Rattle.rules.specs.declared.Setup.{Setup}
+use Rattle.rules.specs.Model.{zeros, grown, fresh}
+use Rattle.rules.specs.Labels.{Label}
+use Rattle.rules.specs.Replies.{rowByte}
+use Rattle.book.specs.Layout.{markedByte}
+use Rattle.book.specs.Stamps.{stampByte, writeStamp, labelOf, pairReads, readOk, readStamp}
+use Rattle.book.proofs.Bytes.{row-phase, row-clock, marked-row, marked-bytes}
+use Rattle.book.proofs.Sixteen.{row-of-byte}
+use Rattle.labels.specs.Records.{Readable}
+
+pub label-pair : (r : List ℕ) (j : ℕ) → j < 8
+    → labelOf r .row j ≡ record { phase = byte r (4 + 2 * j); clock = byte r (4 + (2 * j + 1)) }
+label-pair r j l =
+    rw (lt-ltb j 8 l)
+    (λ i. record { phase = getD-drop 4 r (2 * j) 0 i; clock = getD-drop 4 r (2 * j + 1) 0 i })
+
+-- the sixteen bytes after the mark, the owner and D
+pub row-dropped : (r : List ℕ) → length r ≡ 20 → tab 0 16 (λ c. byte r (4 + c)) ≡ drop 4 r
+row-dropped r e = sym (is-tab 16 (λ c. byte r (4 + c)) (drop 4 r) (length-drop 4 r ∙ omega arith) (λ i l. getD-drop 4 r i 0))
+
+-- a pair that reads
+module _ (X : Setup) (j : ℕ) (q : Pair) (h : pairReads X j q ≡ true) where
+  pub pair-phase : j < X .desks → q .phase < X .phases
+  unfolding pairReads
+  pair-phase l =
+      let p : allOf (ltb (q .phase) (X .phases) ∷ ltb (q .clock) (X .clocks) ∷ []) ≡ true
+      = rw (pairReads, lt-ltb j (X .desks) l) at h in
+      ltb-true _ _ (each _ p 0)
+
+  pair-zero : X .desks ≤ j → q ≡ zeros j
+  unfolding pairReads
+  pair-zero l =
+      let p : allOf (eqb (q .phase) 0 ∷ eqb (q .clock) 0 ∷ []) ≡ true = rw (pairReads, le-ltb j (X .desks) l) at h in
+      λ i. record { phase = eqb-true (q .phase) 0 (each _ p 0) i; clock = eqb-true (q .clock) 0 (each _ p 1) i }
+
+zero-reads : (X : Setup) (j : ℕ) → X .desks ≤ j → pairReads X j (zeros j) ≡ true
+unfolding pairReads allOf
+zero-reads X j l = rw (pairReads, le-ltb j (X .desks) l)
+
+-- a record that reads, clause by clause
+module _ (X : Setup) (r : List ℕ) (h : readOk X r ≡ true) where
+  pub read-size : length r ≡ 20
+  unfolding readOk
+  read-size = eqb-true _ _ (each _ h 0)
+
+  label-readable : X .desks ≤ 8 → Readable X (labelOf r)
+  unfolding readOk
+  label-readable few =
+      record {
+        owner = ltb-true (byte r 2) (X .desks) (each _ h 3);
+        row =
+            λ j.
+            ⊎-elim (λ (l : j < 8). all-at (λ j. pairReads X j (labelOf r .row j)) 8 j l (each _ h 5))
+            (λ (l : 8 ≤ j). rw (le-ltb j 8 l) (zero-reads X j (omega arith))) (lt-or-le j 8);
+      }
+
+  label-written : writeStamp (X .desks) (labelOf r) ≡ r
+  unfolding readOk writeStamp
+  label-written =
+      sym (is-tab 20 (stampByte (X .desks) (labelOf r)) r read-size
+      (marked-bytes 0x53 0x54 _ (λ c v. byte r c ≡ v) (eqb-true (byte r 0) 0x53 (each _ h 1)) (eqb-true (byte r 1) 0x54 (each _ h 2)) refl
+      (eqb-true (byte r 3) (X .desks) (each _ h 4))
+      (λ c l. sym (row-of-byte (drop 4 r) c l ∙ getD-drop 4 r c 0))))
+
+-- what reads is what the bytes tell
+pub stamp-told : (X : Setup) (r : List ℕ) (e : Label) → readStamp X r ≡ some e → (readOk X r ≡ true) × (labelOf r ≡ e)
+unfolding readStamp
+stamp-told X r e = go (readOk X r)
+  where
+    go : (t : Bool) → pick t (some (labelOf r)) none ≡ some e → (t ≡ true) × (labelOf r ≡ e)
+    go true q = (refl, cc)
+    go false q = absurd (let z : _≡_ {A = ℕ} 0 1 = cc in omega arith)
+
+-- every record that reads is the one that would be written
+pub write-read : (X : Setup) (r : List ℕ) (e : Label) → readStamp X r ≡ some e → writeStamp (X .desks) e ≡ r
+write-read X r e h =
+    let t = stamp-told X r e h in
+    ap (writeStamp (X .desks)) (sym (t .1)) ∙ label-written X r (t .0)
+
+module _ (X : Setup) (few : X .desks ≤ 8) where
+  -- and it tells a stamp that a record can tell
+  pub read-readable : (r : List ℕ) (e : Label) → readStamp X r ≡ some e → Readable X e
+  read-readable r e h =
+      let t = stamp-told X r e h in
+      rw (sym (t .1)) (label-readable X r (t .0) few)
+
+  -- every such stamp writes to a record that tells it
+  module _ (e : Label) (h : Readable X e) where
+    abbrev written : List ℕ
+    written = writeStamp (X .desks) e
+
+    written-at : (c : ℕ) → c < 20 → byte written c ≡ stampByte (X .desks) e c
+    unfolding writeStamp
+    written-at c l = tab-at 20 (stampByte (X .desks) e) c l
+
+    written-row : (c : ℕ) → c < 16 → byte written (4 + c) ≡ rowByte (e .row) c
+    written-row c l = written-at (4 + c) (omega arith) ∙ marked-row 0x53 0x54 _ c
+
+    row-told : (j : ℕ) → labelOf written .row j ≡ e .row j
+    row-told j =
+        ⊎-elim (λ (l : j < 8).
+        let s : 4 + (2 * j + 1) ≡ 4 + (1 + 2 * j) = omega arith in
+        let p : byte written (4 + 2 * j) ≡ e .row j .phase = written-row (2 * j) (omega arith) ∙ row-phase (e .row) j in
+        let q : byte written (4 + (2 * j + 1)) ≡ e .row j .clock
+        = ap (byte written) s ∙ written-row (1 + 2 * j) (omega arith) ∙ row-clock (e .row) j in
+        label-pair written j l ∙ (λ i. record { phase = p i; clock = q i }))
+        (λ (l : 8 ≤ j). rw (le-ltb j 8 l) (sym (pair-zero X j (e .row j) (h .row j) (omega arith)))) (lt-or-le j 8)
+
+    label-told : labelOf written ≡ e
+    unfolding markedByte
+    label-told =
+        let o = written-at 2 (omega arith) in
+        let r : labelOf written .row ≡ e .row = fun-ext row-told in
+        λ i. record { owner = o i; row = r i }
+
+    written-reads : readOk X written ≡ true
+    unfolding readOk writeStamp markedByte allOf
+    written-reads =
+        rw (
+          readOk,
+          eq-eqb (length written) 20 (length-tab 0 20 (stampByte (X .desks) e)),
+          eq-eqb (byte written 0) 0x53 (written-at 0 (omega arith)),
+          eq-eqb (byte written 1) 0x54 (written-at 1 (omega arith)),
+          lt-ltb (byte written 2) (X .desks) (omega (arith, written-at 2 (omega arith), h .owner)),
+          eq-eqb (byte written 3) (X .desks) (written-at 3 (omega arith)),
+          all-in (λ j. pairReads X j (labelOf written .row j)) 8 (λ j l. ap (pairReads X j) (row-told j) ∙ h .row j),
+        )
+
+    pub read-write : readStamp X (writeStamp (X .desks) e) ≡ some e
+    unfolding readStamp
+    read-write = rw (readStamp, written-reads) (ap some label-told)
+
+-- case 4 of document 01: the record of the stamp that local 0 answers on a fresh book
+pub case-4 : writeStamp 3 (record { owner = 0; row = grown fresh 0 })
+    ≡ 0x53 ∷ 0x54 ∷ 0x00 ∷ 0x03 ∷ 0x00 ∷ 0x01 ∷ 0 ∷ 0 ∷ 0 ∷ 0 ∷ 0 ∷ 0 ∷ 0 ∷ 0 ∷ 0 ∷ 0 ∷ 0 ∷ 0 ∷ 0 ∷ 0 ∷ []
+unfolding writeStamp tab markedByte rowByte
+case-4 = refl

@@ -1,0 +1,56 @@
+-- `labels::sixteen` meets its contract.
+-- Assumes nothing.
+use Prim.Native.Nat.{ℕ, _≤_, _+_, _-_}
+use mathlib.Core.Path.{_≡_, refl}
+use native.Mathlib.Omega.{arith}
+use borrow.Author.Needs.{needs}
+use lib.ListN.{length-replicate}
+use Rattle.tools.specs.Lists.{byte, Filled}
+use Rattle.tools.proofs.Lists.{filled-none, filled-more, filled-all}
+use Rattle.labels.proofs.sixteen.Statement.{statement}
+use Rattle.labels.proofs.sixteen.Tie as tie
+
+abbrev Inv-loop : tie.InvT-loop
+Inv-loop s a row₀ c₀ row c = (c ≤ 16) × Filled 16 c (λ i. byte s (a + i)) row
+
+abbrev μ-loop : tie.MeasureT-loop
+μ-loop s a row₀ c₀ row c = 16 - c
+
+loop-holds : tie.Need-loop-holds Inv-loop μ-loop
+loop-holds c = (search needs, filled-none 16 _ _ (length-replicate {A = ℕ} 16 0))
+
+add-row : tie.Need-add-row Inv-loop μ-loop
+add-row c = omega arith
+
+shared-slice-read-row : tie.Need-shared-slice-read-row Inv-loop μ-loop
+shared-slice-read-row c = omega arith
+
+array-write-row : tie.Need-array-write-row Inv-loop μ-loop
+array-write-row c = omega arith
+
+add-c : tie.Need-add-c Inv-loop μ-loop
+add-c c = omega arith
+
+loop-less : tie.Need-loop-less Inv-loop μ-loop
+loop-less c = omega arith
+
+loop-again : tie.Need-loop-again Inv-loop μ-loop
+loop-again c = let h = c .before .before .loop in (omega arith, filled-more 16 (h .c) _ (h .row) _ (h .inv .1) (omega arith) refl)
+
+returns : tie.Need-returns Inv-loop μ-loop
+returns c = let h = c .before .loop in let e : h .c ≡ 16 = omega arith in filled-all 16 _ (h .row) (rw e at (h .inv .1))
+
+pub sixteen-spec : {M : Type 1} → statement M
+sixteen-spec =
+    tie.close
+    (tie.spec
+    Inv-loop
+    μ-loop
+    loop-holds
+    add-row
+    shared-slice-read-row
+    array-write-row
+    add-c
+    loop-less
+    loop-again
+    returns)

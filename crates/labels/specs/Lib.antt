@@ -1,0 +1,2 @@
+-- Stamp records, read and written, and what the calls off the book hand back.
+pub mod Records
