@@ -6,16 +6,18 @@ use mathlib.Core.List.{List, [], _∷_}
 use Prim.Native.Nat.{ℕ}
 use Rattle.rules.specs.declared.Setup.{Setup}
 use Rattle.rules.specs.declared.Relation.{Relation}
+use Rattle.rules.specs.declared.Relation.the-variants.{Crossed}
 use Rattle.rules.specs.Model.{before, compare, used, relates}
 use Rattle.rules.specs.Calls.{Book, Call, start, on}
 use Rattle.rules.specs.History.{State, begin, next, after, logAfter, setupAfter}
 use Rattle.rules.specs.Round.{roundBook}
 use Rattle.rules.specs.Demand.{Stands, BeforeIs, CompareIs}
-use Rattle.rules.proofs.Shelf.{state-before, state-compare}
+use Rattle.rules.proofs.Shelf.{state-before, state-compare, compare-words}
 use Rattle.book.specs.Sound.{sound}
 use Rattle.book.specs.Codec.{decode, encode}
 use Rattle.book.specs.Answers.{answerTo, bookAfter}
 use Rattle.book.proofs.Codec.{encode-decode}
+use Rattle.book.proofs.Numbers.{answer-number, refused-answer}
 use Rattle.promises.specs.Runs.{bytesAfter, answersOn, lineAnswers}
 use Rattle.promises.proofs.Together.{Together, ring-answer, same-answer, together-next, together-start, together-after}
 
@@ -64,3 +66,14 @@ module _ (s : List ℕ) (X : Setup) (started : answerTo s (start X) .number ≡ 
     compare-chains =
         rw (ring-answer bytes _ together (on (compare i j)))
         (state-compare _ (together .faithful) i j (is-used i ui) (is-used j uj))
+
+    -- its words stand for a chain one way, the other way, the same event, or neither
+    pub words-stand : (r : Relation) → answerTo bytes (on (compare i j)) .value ≡ relates r
+        → Stands (logAfter X cs) (behind i) (behind j) r
+    words-stand =
+        compare-words (setupAfter X cs) (logAfter X cs) (behind i) (behind j) _
+        (λ ne. sym (refused-answer bytes (compare i j) _ (answer-number bytes (compare i j)) ne)) compare-chains
+
+    -- Kept stamps in a book brought along from start are never crossed.
+    pub never-crossed : answerTo bytes (on (compare i j)) .value ≡ relates Crossed → ⊥
+    never-crossed e = words-stand Crossed e

@@ -6,17 +6,26 @@ use mathlib.Core.Option.{Option, none, some}
 use mathlib.Core.List.{List, _∷_}
 use Prim.Native.Nat.{ℕ, zero, suc, _<_, _≤_}
 use native.Mathlib.Omega.{arith}
+use borrow.Author.Tests.{lt-ltb, le-ltb}
+use mathlib.Core.Logic.{⊎-elim}
+use lib.ListN.{length}
+use Rattle.tools.specs.Tests.{allOf}
+use Rattle.tools.proofs.Tests.{lt-or-le}
 use Rattle.tools.specs.Tables.{Each}
 use Rattle.tools.proofs.Tables.{put-same, some-is, none-some}
-use Rattle.ring.specs.Phases.{ring}
+use Rattle.ring.specs.Phases.{Pair, ring}
 use Rattle.rules.specs.declared.Setup.{Setup}
 use Rattle.rules.specs.Model.{Row, Seat, Held, Tables, Act, local, reset, keep, drop, discard, show, send, receive, before, compare, write, Answer, byIn, rowIn, used, why, done, step, settle, zeros}
 use Rattle.rules.specs.Labels.{Label}
-use Rattle.rules.specs.Fits.{RowFits, SlotFits, Fits}
+use Rattle.rules.specs.Fits.{PairFits, RowFits, SlotFits, Fits}
 use Rattle.rules.specs.Setups.{permits}
 use Rattle.rules.specs.Calls.{Book, Call, start, on, call}
-use Rattle.rules.specs.History.{State, begin, next, after, setupAfter}
-use Rattle.rules.specs.Stamps.{slotOf, ownerAt, stampIn, stampGiven, Answered}
+use Rattle.rules.specs.History.{State, begin, next, after, logAfter, setupAfter}
+use Rattle.rules.specs.Round.{roundBook}
+use Rattle.rules.specs.Stamps.{labelOf, slotOf, ownerAt, stampIn, stampGiven, Answered}
+use Rattle.rules.specs.Demand.{InReach, BeforeSaid, CompareSaid, Newer}
+use Rattle.rules.proofs.Labels.{off-before, off-compare, off-newest}
+use Rattle.rules.proofs.Agree.{state-agree-before, state-agree-compare}
 use Rattle.rules.proofs.Alike.{ring-book}
 use Rattle.rules.proofs.Setups.{Permitted, permitted}
 use Rattle.rules.proofs.Runs.{after-append}
@@ -24,38 +33,46 @@ use Rattle.rules.proofs.Stamps.{next-setup, setup-stays}
 use Rattle.rules.proofs.Bounded.{no-local, no-send, no-receive, no-reset, no-show, no-write}
 use Rattle.rules.proofs.Fits.{done-fits}
 use Rattle.book.specs.Codec.{decode}
-use Rattle.book.specs.Answers.{admits, answerTo, bookAfter}
+use Rattle.book.specs.Stamps.{pairReads, writeStamp, readStamp, filled}
+use Rattle.labels.specs.Records.{Readable}
+use Rattle.labels.proofs.Records.{read-write}
+use Rattle.book.specs.Answers.{admits, answerTo, bookAfter, targetAfter}
+use Rattle.book.specs.Numbers.{tablesOf, numberOf}
+use Rattle.book.proofs.Numbers.{accepted-answer, refused-answer}
 use Rattle.book.proofs.Soundness.{sound-setup, sound-fits}
 use Rattle.book.proofs.Answers.{answer-is}
 use Rattle.promises.specs.Runs.{bytesAfter}
-use Rattle.promises.specs.Records.{Recorded}
-use Rattle.promises.proofs.Together.{together-start}
+use Rattle.promises.specs.Records.{stampFrom, Recorded, beforeOf, compareOf, newestOf}
+use Rattle.promises.proofs.Together.{ring-answer, together-start}
 use Rattle.promises.proofs.Demand.{together}
 
--- a stamp whose owner is a desk and whose row is in range, zero beyond the desks
-pub record LabelFits (X : Setup) (e : Label) : Type 0 where
-  pub owner : e .owner < X .desks
-  pub row : (k : ℕ) → (k < X .desks → (e .row k .phase < X .phases) × (e .row k .clock < X .clocks)) × (X .desks ≤ k → e .row k ≡ zeros k)
+-- a desk's row that fits in a book is one that a record can tell
+pair-reads : (X : Setup) (o B k : ℕ) (q : Pair) → PairFits X o B k q → pairReads X k q ≡ true
+unfolding pairReads allOf
+pair-reads X o B k q f =
+    ⊎-elim (λ (l : k < X .desks).
+    let r = f .0 l in rw (lt-ltb k (X .desks) l, lt-ltb (q .phase) (X .phases) (r .phase), lt-ltb (q .clock) (X .clocks) (r .clock)))
+    (λ (l : X .desks ≤ k). rw (le-ltb k (X .desks) l, f .1 l)) (lt-or-le k (X .desks))
 
-row-label : (X : Setup) (o : ℕ → ℕ) (B j : ℕ) (r : Row) → j < X .desks → RowFits X o B r → LabelFits X (record { owner = j; row = r })
-row-label X o B j r l f = record { owner = l; row = λ k. (λ d. let q = f k .0 d in (q .phase, q .clock), f k .1) }
+row-label : (X : Setup) (o : ℕ → ℕ) (B j : ℕ) (r : Row) → j < X .desks → RowFits X o B r → Readable X (record { owner = j; row = r })
+row-label X o B j r l f = record { owner = l; row = λ k. pair-reads X (o k) B k (r k) (f k) }
 
 held-label : (X : Setup) (o : ℕ → ℕ) (s : ℕ) (h : Option Held) → Each (SlotFits X o s) h → used h ≡ true
-    → LabelFits X (record { owner = byIn h; row = rowIn h })
+    → Readable X (record { owner = byIn h; row = rowIn h })
 held-label X o s none w u = absurd (false≢true u)
 held-label X o s (some m) w u = row-label X o (X .shelfLag) (m .by) (m .row) (w .by) (w .row)
 
 module _ (X : Setup) (ok : Permitted X) (b : Tables) (w : Fits X b) where
   -- the row that an event at j leaves in its seat
   event-label : (c : Act) → why (ring (X .phases)) X b c ≡ 0 → (j : ℕ) (r : Row) (e : Label) → j < X .desks
-      → done (ring (X .phases)) X b c .tables .seat j .row ≡ r → some record { owner = j; row = r } ≡ some e → LabelFits X e
+      → done (ring (X .phases)) X b c .tables .seat j .row ≡ r → some record { owner = j; row = r } ≡ some e → Readable X e
   event-label c z j r e l q p =
-      subst (LabelFits X) (some-is p)
+      subst (Readable X) (some-is p)
       (row-label X _ (X .seatLag) j r l
       (subst (RowFits X _ (X .seatLag)) q (done-fits X ok b w c z .seats j l)))
 
   done-label : (c : Act) → why (ring (X .phases)) X b c ≡ 0 → (e : Label)
-      → stampIn (ownerAt b (slotOf c)) (done (ring (X .phases)) X b c .answer .value) ≡ some e → LabelFits X e
+      → stampIn (ownerAt b (slotOf c)) (done (ring (X .phases)) X b c .answer .value) ≡ some e → Readable X e
   unfolding done
   done-label (local j) z e p =
       event-label (local j) z j _ e (no-local _ X b j z .0) (ap (λ (s : Seat). s .row) (put-same (b .seat) j _)) p
@@ -71,23 +88,45 @@ module _ (X : Setup) (ok : Permitted X) (b : Tables) (w : Fits X b) where
   done-label (before s t) z e p = absurd (none-some p)
   done-label (compare s t) z e p = absurd (none-some p)
   done-label (show s) z e p =
-      subst (LabelFits X) (some-is p) (held-label X _ s (b .shelf s) (w .shelf s) (no-show _ X b s z .0))
+      subst (Readable X) (some-is p) (held-label X _ s (b .shelf s) (w .shelf s) (no-show _ X b s z .0))
   done-label (write s room) z e p =
-      subst (LabelFits X) (some-is p) (held-label X _ s (b .shelf s) (w .shelf s) (no-write _ X b s room z .0))
+      subst (Readable X) (some-is p) (held-label X _ s (b .shelf s) (w .shelf s) (no-write _ X b s room z .0))
 
   -- every stamp that an act is answered is in range
   pub step-label : (c : Act) (e : Label)
-      → stampIn (ownerAt b (slotOf c)) (step (ring (X .phases)) X b c .answer .value) ≡ some e → LabelFits X e
+      → stampIn (ownerAt b (slotOf c)) (step (ring (X .phases)) X b c .answer .value) ≡ some e → Readable X e
   unfolding step
   step-label c e = go (why (ring (X .phases)) X b c) refl
     where
       go : (n : ℕ) → why (ring (X .phases)) X b c ≡ n
-          → stampIn (ownerAt b (slotOf c)) (settle n b (done (ring (X .phases)) X b c) .answer .value) ≡ some e → LabelFits X e
+          → stampIn (ownerAt b (slotOf c)) (settle n b (done (ring (X .phases)) X b c) .answer .value) ≡ some e → Readable X e
       go zero z p = done-label c z e p
       go (suc n) z p = absurd (none-some p)
 
+-- the bytes that write fills in are the record of the stamp that it is answered
+pub written-record : (s : List ℕ) (i : ℕ) (t : List ℕ) (e : Label) → stampFrom s (write i (length t)) ≡ some e
+    → targetAfter s i t ≡ filled t (writeStamp (decode s .setup .desks) e)
+unfolding done
+written-record s i t e g = go (numberOf s (write i (length t))) refl
+  where
+    go : (n : ℕ) → numberOf s (write i (length t)) ≡ n → targetAfter s i t ≡ filled t (writeStamp (decode s .setup .desks) e)
+    go zero z =
+        let a = accepted-answer s (write i (length t)) z in
+        let q : e ≡ record { owner = byIn (tablesOf s .shelf i); row = rowIn (tablesOf s .shelf i) } =
+        sym (some-is (ap (λ (b : Answer). stampIn (byIn (tablesOf s .shelf i)) (b .value)) a ∙ g)) in
+        rw (← a, q)
+    go (suc n) z =
+        let a = refused-answer s (write i (length t)) (suc n) (sym z) (λ y. omega arith) in
+        absurd (none-some (ap (λ (b : Answer). stampIn (byIn (tablesOf s .shelf i)) (b .value)) a ∙ g))
+
 -- s: the bytes that start was given, whatever they were
 module _ (s : List ℕ) (X : Setup) (started : answerTo s (start X) .number ≡ 0) (cs : List Call) where
+  abbrev bytes : List ℕ
+  bytes = bytesAfter (bookAfter s (start X)) cs
+
+  few : setupAfter X cs .desks ≤ 8
+  few = permitted (setupAfter X cs) (together s X started cs .faithful .permits) .few
+
   fair : permits X ≡ true
   fair = together-start s X started .faithful .permits
 
@@ -122,10 +161,67 @@ module _ (s : List ℕ) (X : Setup) (started : answerTo s (start X) .number ≡ 
         ∙ ap (λ (u : State). u .book .setup) (after-append (begin X) (k .earlier) (on (k .act) ∷ k .later))
         ∙ setup-stays (next t (on (k .act))) (k .later) (k .ongoing) ∙ next-setup t (k .act)
 
-    in-range : LabelFits (setupAfter X cs) (k .stamp)
+    in-range : Readable (setupAfter X cs) (k .stamp)
     unfolding call admits
     in-range =
         let w = together s X started (k .earlier) in
-        subst (λ (Y : Setup). LabelFits Y (k .stamp)) (ap (λ (b : Book). b .setup) (w .told) ∙ sym same-setup)
+        subst (λ (Y : Setup). Readable Y (k .stamp)) (ap (λ (b : Book). b .setup) (w .told) ∙ sym same-setup)
         (step-label (decode then .setup) (permitted (decode then .setup) (sound-setup then (w .whole))) (decode then .tables) (sound-fits then (w .whole)) (k .act) (k .stamp)
         (ap (λ (a : Answer). stampIn (ownerAt (decode then .tables) (slotOf (k .act))) (a .value)) (sym (answer-is then (on (k .act)) (w .whole))) ∙ k .given))
+
+    -- and its record tells it again
+    reads : readStamp (setupAfter X cs) r ≡ some (k .stamp)
+    reads = subst (λ (q : List ℕ). readStamp (setupAfter X cs) q ≡ some (k .stamp)) (k .written) (read-write (setupAfter X cs) few (k .stamp) in-range)
+
+  -- two records that the run has given out
+  module _ (r q : List ℕ) (x y : ℕ) (a : Recorded s X cs r x) (c : Recorded s X cs q y) where
+    -- Before says yes exactly when a chain leads from the one event to the other.
+    pub records-before : InReach (setupAfter X cs) (logAfter X cs) x y
+        → BeforeSaid (logAfter X cs) x y (beforeOf (setupAfter X cs) r q)
+    records-before l =
+        rw (reads r x a, reads q y c) (off-before X fair cs x y (a .stamp) (c .stamp) (answered r x a) (answered q y c) l)
+
+    -- Compare's word is how the one event stands to the other.
+    pub records-compare : InReach (setupAfter X cs) (logAfter X cs) x y → InReach (setupAfter X cs) (logAfter X cs) y x
+        → CompareSaid (logAfter X cs) x y (compareOf (setupAfter X cs) r q)
+    records-compare l m =
+        rw (reads r x a, reads q y c) (off-compare X fair cs x y (a .stamp) (c .stamp) (answered r x a) (answered q y c) l m)
+
+    -- Newest is the one that is after the other, the first if they are of one event, neither if they are concurrent.
+    pub records-newest : InReach (setupAfter X cs) (logAfter X cs) x y → InReach (setupAfter X cs) (logAfter X cs) y x
+        → Newer (logAfter X cs) x y (newestOf (setupAfter X cs) r q)
+    records-newest l m =
+        rw (reads r x a, reads q y c) (off-newest X fair cs x y (a .stamp) (c .stamp) (answered r x a) (answered q y c) l m)
+
+  -- two kept stamps, and the records that are written from them
+  module _ (i j : ℕ) (e f : Held) (pe : decode bytes .tables .shelf i ≡ some e) (pf : decode bytes .tables .shelf j ≡ some f) where
+    slot-is : (k : ℕ) (m : Held) → decode bytes .tables .shelf k ≡ some m → roundBook (after (begin X) cs .book) .tables .shelf k ≡ some m
+    slot-is k m p = ap (λ (b : Book). b .tables .shelf k) (sym (together s X started cs .told)) ∙ p
+
+    slot-reads : (k : ℕ) (m : Held) → decode bytes .tables .shelf k ≡ some m
+        → readStamp (setupAfter X cs) (writeStamp (setupAfter X cs .desks) (labelOf m)) ≡ some (labelOf m)
+    slot-reads k m p =
+        let w = together s X started cs in
+        read-write (setupAfter X cs) few (labelOf m)
+        (subst (λ (Y : Setup). Readable Y (labelOf m)) (ap (λ (b : Book). b .setup) (w .told))
+        (subst (λ (o : Option Held). Readable (decode bytes .setup) (record { owner = byIn o; row = rowIn o })) p
+        (held-label (decode bytes .setup) _ k (decode bytes .tables .shelf k) (sound-fits bytes (w .whole) .shelf k) (ap used p))))
+
+    -- When the book accepts, the records get the same answer.
+    pub same-off-before : answerTo bytes (on (before i j)) .number ≡ 0
+        → beforeOf (setupAfter X cs) (writeStamp (setupAfter X cs .desks) (labelOf e)) (writeStamp (setupAfter X cs .desks) (labelOf f))
+        ≡ answerTo bytes (on (before i j))
+    same-off-before z =
+        let w = together s X started cs in
+        let g = ring-answer bytes _ w (on (before i j)) in
+        rw (slot-reads i e pe, slot-reads j f pf)
+        (state-agree-before _ (w .faithful) i j e f (slot-is i e pe) (slot-is j f pf) (ap (λ (a : Answer). a .number) (sym g) ∙ z) ∙ sym g)
+
+    pub same-off-compare : answerTo bytes (on (compare i j)) .number ≡ 0
+        → compareOf (setupAfter X cs) (writeStamp (setupAfter X cs .desks) (labelOf e)) (writeStamp (setupAfter X cs .desks) (labelOf f))
+        ≡ answerTo bytes (on (compare i j))
+    same-off-compare z =
+        let w = together s X started cs in
+        let g = ring-answer bytes _ w (on (compare i j)) in
+        rw (slot-reads i e pe, slot-reads j f pf)
+        (state-agree-compare _ (w .faithful) i j e f (slot-is i e pe) (slot-is j f pf) (ap (λ (a : Answer). a .number) (sym g) ∙ z) ∙ sym g)

@@ -165,8 +165,8 @@ module _ (A : Answers) where
         : e < length xs
         → (n : ℕ)
         → textOf A s (take (e + 1 + n) xs)
-            ≡ A .says (s .book) (s .line ++ take e xs)
-                ++ textOf A (start (A .leaves (s .book) (s .line ++ take e xs))) (take n (drop (e + 1) xs))
+        ≡ A .says (s .book) (s .line ++ take e xs)
+        ++ textOf A (start (A .leaves (s .book) (s .line ++ take e xs))) (take n (drop (e + 1) xs))
     first-text l n =
         rw (
           first-there l n,
@@ -179,7 +179,7 @@ module _ (A : Answers) where
         : e < length xs
         → (n : ℕ)
         → after A s (take (e + 1 + n) xs)
-            ≡ after A (start (A .leaves (s .book) (s .line ++ take e xs))) (take n (drop (e + 1) xs))
+        ≡ after A (start (A .leaves (s .book) (s .line ++ take e xs))) (take n (drop (e + 1) xs))
     first-after l n =
         rw (
           first-there l n,
