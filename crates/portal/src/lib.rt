@@ -49,6 +49,7 @@ fn refused(number: u8) -> Stamped
     }
 }
 
+// A free place or slot has its mark and 18 zeros.
 fn clear(book: &mut [u8], k: usize)
     requires { ⌜ length (now book) ≡ 1456 ⌝ }
     requires { ⌜ k < 72 ⌝ }
@@ -57,6 +58,7 @@ fn clear(book: &mut [u8], k: usize)
     parts::post(book, k, FREE, FILLER, [0u8; 16]);
 }
 
+// All four events mark the seat started and answer a stamp.
 fn take_row(book: &mut [u8], desk: usize, row: [u8; 16]) -> Stamp
     requires { ⌜ length (now book) ≡ 1456 ⌝ }
     requires { ⌜ desk < 8 ⌝ }
@@ -117,6 +119,7 @@ fn write_free(book: &mut [u8], k: usize)
     book[16 + 20 * k + 1] = parts::second_mark(k);
 }
 
+// Record by record, so that no byte is looked up by a division.
 fn write_fresh(book: &mut [u8], s: Setup)
     requires { ⌜ length (now book) ≡ 1456 ⌝ }
     requires { ⌜ permits s ≡ true ⌝ }

@@ -114,6 +114,7 @@ fn seats_behind(book: &[u8], desk: usize) -> bool
     false
 }
 
+// A free one lags nowhere, whatever its bytes.
 fn lags_at(book: &[u8], desk: usize, bound: usize, a: usize, p: usize) -> bool
     requires { ⌜ AtDesk (now book) desk ⌝ }
     requires { ⌜ (a ≤ 40) × (p < 32) ⌝ }
@@ -137,6 +138,7 @@ fn behind_from(book: &[u8], desk: usize, bound: usize, a: usize) -> bool
     false
 }
 
+// Mail may lag 2M, a kept stamp A: at that bound one more reset would bring it back as new.
 fn mail_behind(book: &[u8], desk: usize) -> bool
     requires { ⌜ AtDesk (now book) desk ⌝ }
     ensures { λ r. ⌜ r ≡ behindFrom (now (book .entry)) desk (2 * setupOf (now (book .entry)) .seatLag) 8 ⌝ }
@@ -156,7 +158,7 @@ fn shelf_behind(book: &[u8], desk: usize) -> bool
     behind_from(book, desk, parts::shelf_lag_of(book), rows::SHELF)
 }
 
-// The number of local.
+// Local: BadBook, NoDesk, PhaseFull or 0.
 pub fn local_number(book: &[u8], desk: usize) -> u8
     ensures { λ r. ⌜ r ≡ numberOf (now (book .entry)) (Model.local desk) ⌝ }
 {
@@ -172,7 +174,7 @@ pub fn local_number(book: &[u8], desk: usize) -> u8
     rules::DONE
 }
 
-// The number of send.
+// Send: BadBook, NoDesk, SameDesk, PhaseFull, MailFull or 0.
 pub fn send_number(book: &[u8], desk: usize, to: usize) -> u8
     ensures { λ r. ⌜ r ≡ numberOf (now (book .entry)) (Model.send desk to) ⌝ }
 {
@@ -194,7 +196,7 @@ pub fn send_number(book: &[u8], desk: usize, to: usize) -> u8
     rules::DONE
 }
 
-// The number of receive.
+// Receive: BadBook, NoDesk, NoPlace, NotYours, PhaseFull or 0.
 pub fn receive_number(book: &[u8], desk: usize, place: usize) -> u8
     ensures { λ r. ⌜ r ≡ numberOf (now (book .entry)) (Model.receive desk place) ⌝ }
 {
@@ -216,7 +218,7 @@ pub fn receive_number(book: &[u8], desk: usize, place: usize) -> u8
     rules::DONE
 }
 
-// The number of reset.
+// Reset: BadBook, NoDesk, SeatBehind, MailBehind, ShelfBehind or 0.
 pub fn reset_number(book: &[u8], desk: usize) -> u8
     ensures { λ r. ⌜ r ≡ numberOf (now (book .entry)) (Model.reset desk) ⌝ }
 {
@@ -238,7 +240,7 @@ pub fn reset_number(book: &[u8], desk: usize) -> u8
     rules::DONE
 }
 
-// The number of keep.
+// Keep: BadBook, NoDesk, NoEvent, ShelfFull or 0.
 pub fn keep_number(book: &[u8], desk: usize) -> u8
     ensures { λ r. ⌜ r ≡ numberOf (now (book .entry)) (Model.keep desk) ⌝ }
 {
@@ -257,7 +259,7 @@ pub fn keep_number(book: &[u8], desk: usize) -> u8
     rules::DONE
 }
 
-// The number of drop.
+// Drop: BadBook, NoPlace or 0.
 pub fn drop_number(book: &[u8], slot: usize) -> u8
     ensures { λ r. ⌜ r ≡ numberOf (now (book .entry)) (Model.drop slot) ⌝ }
 {
@@ -270,7 +272,7 @@ pub fn drop_number(book: &[u8], slot: usize) -> u8
     rules::DONE
 }
 
-// The number of discard.
+// Discard: BadBook, NoPlace or 0.
 pub fn discard_number(book: &[u8], place: usize) -> u8
     ensures { λ r. ⌜ r ≡ numberOf (now (book .entry)) (Model.discard place) ⌝ }
 {

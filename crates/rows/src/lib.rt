@@ -40,6 +40,7 @@ fn with_pair(row: [u8; 16], j: usize, phase: u8, clock: u8) -> [u8; 16]
     next
 }
 
+// The own pair comes from the desk's own seat, whatever the row says of it.
 fn ticked(book: &[u8], j: usize, row: [u8; 16]) -> [u8; 16]
     requires { ⌜ Grows (now book) j ⌝ }
     ensures { λ r. ⌜ r ≡ withPair row j (tick (rowAt (now (book .entry)) j j)) ⌝ }
@@ -73,6 +74,7 @@ pub fn turned_row(book: &[u8], j: usize) -> [u8; 16]
     )
 }
 
+// Each desk's own phase is fetched once: both lags are behind it.
 fn is_later(book: &[u8], d: usize, m: usize, k: usize) -> bool
     requires { ⌜ (length (now book) ≡ 1456) × (sound (now book) ≡ true) ⌝ }
     requires { ⌜ (d < 72) × (m < 72) × (k < 8) ⌝ }

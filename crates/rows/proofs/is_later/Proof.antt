@@ -9,9 +9,15 @@ use borrow.Author.Needs.{needs}
 use Rattle.rows.proofs.is_later.Statement.{statement}
 use Rattle.rows.proofs.is_later.Tie as tie
 
--- the phase of desk k in any record is on the ring
-below : (x : tie.Start) (i : ℕ) → i < 72 → byte (x .args .book .now) (spot i (4 + 2 * x .args .k)) < byte (x .args .book .now) 3
-below x i l = phase-below (x .args .book .now) (x .pre .0 .1) i (x .args .k) l (omega arith)
+-- the phases that are compared are on the ring
+abbrev OnRing : tie.Start → ℕ → Type 0
+OnRing x i = byte (x .args .book .now) (spot i (4 + 2 * x .args .k)) < byte (x .args .book .now) 3
+
+below : (x : tie.Start) → OnRing x (x .args .k) × OnRing x (x .args .d) × OnRing x (x .args .m)
+below x = (at (x .args .k) (omega arith), at (x .args .d) (omega arith), at (x .args .m) (omega arith))
+  where
+    at : (i : ℕ) → i < 72 → OnRing x i
+    at i l = phase-below (x .args .book .now) (x .pre .0 .1) i (x .args .k) l (omega arith)
 
 phase-at-requires : tie.Need-phase-at-requires
 phase-at-requires c κs = search needs
@@ -26,10 +32,10 @@ phase-at-requires-3 : tie.Need-phase-at-requires-3
 phase-at-requires-3 c κs = search needs
 
 lag-requires : tie.Need-lag-requires
-lag-requires c κs = let x = c .before .before .before .before .before in omega (arith, below x (x .args .k) (omega arith), below x (x .args .d) (omega arith))
+lag-requires c κs = omega (arith, below (c .before .before .before .before .before))
 
 lag-requires-2 : tie.Need-lag-requires-2
-lag-requires-2 c κs = let x = c .before .before .before .before .before .before in omega (arith, below x (x .args .k) (omega arith), below x (x .args .m) (omega arith))
+lag-requires-2 c κs = omega (arith, below (c .before .before .before .before .before .before))
 
 clock-at-requires : tie.Need-clock-at-requires
 clock-at-requires c κs = search needs
