@@ -52,10 +52,10 @@ cast-post : tie.Need-cast-post
 cast-post c = omega (arith, may (c .before .before .before .before .before) .at .eight)
 
 add-post-3 : tie.Need-add-post-3
-add-post-3 c = omega (arith, to (c .before .before .before .before .before))
+add-post-3 c = let g = c .before .before .before .before .before in omega (arith, to g, may g .at .eight)
 
 cast-post-2 : tie.Need-cast-post-2
-cast-post-2 c = omega (arith, to (c .before .before .before .before .before))
+cast-post-2 c = let g = c .before .before .before .before .before in omega (arith, to g, may g .at .eight)
 
 post-requires : tie.Need-post-requires
 post-requires c κs = (may (c .before .before .before .before .before) .at .size, omega (arith, place (c .before .before .before)))
