@@ -1,3 +1,4 @@
 -- The laws of stamp records and of the calls off the book.
 pub mod Records
 pub mod Answered
+pub mod Once

@@ -19,11 +19,11 @@ use Rattle.ring.specs.Phases.{Pair}
 use Rattle.rules.specs.declared.Setup.{Setup}
 use Rattle.rules.specs.Model.{zeros, grown, fresh}
 use Rattle.rules.specs.Labels.{Label}
-use Rattle.rules.specs.Replies.{rowByte}
+use Rattle.rules.specs.Replies.{rowByte, rowBytes}
 use Rattle.book.specs.Layout.{markedByte}
 use Rattle.book.specs.Stamps.{stampByte, writeStamp, labelOf, pairReads, readOk, readStamp}
 use Rattle.book.proofs.Bytes.{row-phase, row-clock, marked-row, marked-bytes}
-use Rattle.book.proofs.Sixteen.{row-of-byte}
+use Rattle.book.proofs.Stamped.{bytes-of-row}
 use Rattle.labels.specs.Records.{Readable}
 
 pub label-pair : (r : List ℕ) (j : ℕ) → j < 8
@@ -35,6 +35,12 @@ label-pair r j l =
 -- the sixteen bytes after the mark, the owner and D
 pub row-dropped : (r : List ℕ) → length r ≡ 20 → tab 0 16 (λ c. byte r (4 + c)) ≡ drop 4 r
 row-dropped r e = sym (is-tab 16 (λ c. byte r (4 + c)) (drop 4 r) (length-drop 4 r ∙ omega arith) (λ i l. getD-drop 4 r i 0))
+
+row-byte : (r : List ℕ) → length r ≡ 20 → (c : ℕ) → c < 16 → byte r (4 + c) ≡ rowByte (labelOf r .row) c
+unfolding rowBytes
+row-byte r e c l =
+    sym (getD-drop 4 r c 0) ∙ ap (λ (b : List ℕ). byte b c) (sym (bytes-of-row (drop 4 r) (length-drop 4 r ∙ omega arith)))
+    ∙ tab-at 16 (rowByte (labelOf r .row)) c l
 
 -- a pair that reads
 module _ (X : Setup) (j : ℕ) (q : Pair) (h : pairReads X j q ≡ true) where
@@ -78,7 +84,7 @@ module _ (X : Setup) (r : List ℕ) (h : readOk X r ≡ true) where
       sym (is-tab 20 (stampByte (X .desks) (labelOf r)) r read-size
       (marked-bytes 0x53 0x54 _ (λ c v. byte r c ≡ v) (eqb-true (byte r 0) 0x53 (each _ h 1)) (eqb-true (byte r 1) 0x54 (each _ h 2)) refl
       (eqb-true (byte r 3) (X .desks) (each _ h 4))
-      (λ c l. sym (row-of-byte (drop 4 r) c l ∙ getD-drop 4 r c 0))))
+      (λ c l. row-byte r read-size c l)))
 
 -- what reads is what the bytes tell
 pub stamp-told : (X : Setup) (r : List ℕ) (e : Label) → readStamp X r ≡ some e → (readOk X r ≡ true) × (labelOf r ≡ e)

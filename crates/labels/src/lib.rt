@@ -2,9 +2,9 @@
 ghost use mathlib.Core.Path.{_≡_};
 ghost use mathlib.Core.Bool.{true};
 ghost use Prim.Native.Nat.{_+_, _*_, _<_, _≤_};
-ghost use lib.ListN.{length};
+ghost use lib.ListN.{length, drop};
 ghost use Rattle.tools.specs.Tests.{allBelow};
-ghost use Rattle.tools.specs.Lists.{byte, tab};
+ghost use Rattle.tools.specs.Lists.{byte};
 ghost use Rattle.rules.specs.Labels.{gapOff, beforeOff, compareOff};
 ghost use Rattle.rules.specs.Replies.{rowOf, toldSays, comparedSays};
 ghost use Rattle.book.specs.Stamps.{writeStamp, pairReads, readOk, readStamp, labelOf};
@@ -34,15 +34,14 @@ pub struct Reading {
     pub row: [u8; 16],
 }
 
-// The sixteen bytes from a on.
-pub fn sixteen(s: &[u8], a: usize) -> [u8; 16]
-    requires { ⌜ a + 16 ≤ length (now s) ⌝ }
-    ensures { λ r. ⌜ r ≡ tab 0 16 (λ c. byte (now (s .entry)) (a + c)) ⌝ }
+fn row_in(r: &[u8]) -> [u8; 16]
+    requires { ⌜ length (now r) ≡ 20 ⌝ }
+    ensures { λ row. ⌜ row ≡ drop 4 (now (r .entry)) ⌝ }
 {
     let mut row = [0u8; 16];
     let mut c: usize = 0;
     while c < 16 {
-        row[c] = s[a + c];
+        row[c] = r[4 + c];
         c += 1;
     }
     row
@@ -96,7 +95,7 @@ pub fn read(s: Setup, r: &[u8]) -> Reading
             row: [0u8; 16],
         };
     }
-    let row = sixteen(r, 4);
+    let row = row_in(r);
     Reading {
         who: Owner::Of(r[2]),
         row: row,

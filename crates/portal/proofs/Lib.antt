@@ -1,4 +1,5 @@
 -- The laws of the calls.
 pub mod Fresh
 pub mod Acts
+pub mod Asked
 pub mod Once

@@ -1,7 +1,7 @@
 // The calls on a book: each answers what the rules say, on any bytes, and leaves every byte that they say.
 ghost use mathlib.Core.Path.{_≡_};
 ghost use mathlib.Core.Bool.{true};
-ghost use Prim.Native.Nat.{_<_};
+ghost use Prim.Native.Nat.{_<_, _≤_};
 ghost use lib.ListN.{length};
 ghost use Rattle.tools.specs.Lists.{tab, Filled};
 ghost use Rattle.rules.specs.Setups.{permits};
@@ -9,18 +9,21 @@ ghost use Rattle.rules.specs.Model;
 ghost use Rattle.rules.specs.Model.{refusal, zeros};
 ghost use Rattle.rules.specs.Calls;
 ghost use Rattle.rules.specs.Calls.{on, freshBook};
-ghost use Rattle.rules.specs.Replies.{rowBytes, stampedSays, postedSays, keptSays, blank, Beside};
+ghost use Rattle.rules.specs.Replies.{rowBytes, stampedSays, postedSays, keptSays, toldSays, comparedSays, blank, Beside};
 ghost use Rattle.book.specs.Layout;
 ghost use Rattle.book.specs.Layout.{headByte};
 ghost use Rattle.book.specs.Codec.{encode};
-ghost use Rattle.book.specs.Answers.{answerTo, bookAfter};
+ghost use Rattle.book.specs.Stamps.{filled};
+ghost use Rattle.book.specs.Answers.{answerTo, bookAfter, partOf, targetAfter};
 ghost use Rattle.portal.specs.Fresh.{freed};
+use rules::Compared;
 use rules::Kept;
 use rules::Posted;
 use rules::Sent;
 use rules::Setup;
 use rules::Stamp;
 use rules::Stamped;
+use rules::Told;
 
 // A seat's first tag once it has started; a free place or slot has a zero there.
 const STARTED: u8 = 1;
@@ -266,5 +269,65 @@ pub fn discard(book: &mut [u8], place: usize) -> u8
         return n;
     }
     clear(book, rows::MAIL + place);
+    rules::DONE
+}
+
+// Before, of the stamps in two slots.
+pub fn before(book: &[u8], first: usize, second: usize) -> Told
+    ensures { λ r. ⌜ toldSays r ≡ answerTo (now (book .entry)) (on (Model.before first second)) ⌝ }
+{
+    let n = asking::before_number(book, first, second);
+    if n != rules::DONE {
+        return Told::Refused(n);
+    }
+    if asking::is_before(book, first, second) {
+        return Told::Yes;
+    }
+    Told::No
+}
+
+// Compare, of the stamps in two slots.
+pub fn compare(book: &[u8], first: usize, second: usize) -> Compared
+    ensures { λ r. ⌜ comparedSays r ≡ answerTo (now (book .entry)) (on (Model.compare first second)) ⌝ }
+{
+    let n = asking::compare_number(book, first, second);
+    if n != rules::DONE {
+        return Compared::Refused(n);
+    }
+    Compared::Is(asking::relation(book, first, second))
+}
+
+// Show hands back the sixteen row bytes of a slot as a part of the book itself; a refused show hands back an empty part.
+pub fn show(book: &[u8], slot: usize) -> &[u8]
+    ensures { λ r. ⌜ now r ≡ partOf (now (book .entry)) slot ⌝ }
+{
+    if asking::show_number(book, slot) != rules::DONE {
+        return &book[0..0];
+    }
+    asking::row_part(book, slot)
+}
+
+fn fill_first(target: &mut [u8], stamp: [u8; 20])
+    requires { ⌜ 20 ≤ length (now target) ⌝ }
+    ensures { λ _. ⌜ now (target .exit) ≡ filled (now (target .entry)) stamp ⌝ }
+{
+    let mut i: usize = 0;
+    while i < 20 {
+        target[i] = stamp[i];
+        i += 1;
+    }
+}
+
+// Write fills the first 20 bytes of the target with the stamp record of a slot, and no more.
+pub fn write(book: &[u8], slot: usize, target: &mut [u8]) -> u8
+    ensures { λ r. ⌜ r ≡ answerTo (now (book .entry)) (on (Model.write slot (length (now (target .entry))))) .number ⌝ }
+    ensures { λ _. ⌜ now (target .exit) ≡ targetAfter (now (book .entry)) slot (now (target .entry)) ⌝ }
+{
+    let room = target.len();
+    let n = asking::write_number(book, slot, room);
+    if n != rules::DONE {
+        return n;
+    }
+    fill_first(target, asking::record_at(book, slot, room));
     rules::DONE
 }

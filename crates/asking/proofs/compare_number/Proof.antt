@@ -1,0 +1,68 @@
+-- `asking::compare_number` meets its contract.
+-- Assumes nothing.
+use mathlib.Core.Path.{_≡_, sym, _∙_}
+use mathlib.Core.Bool.{Bool, true, false, _||_}
+use Rattle.tools.specs.Tests.{pick}
+use Rattle.rules.specs.Numbers.{OutOfReach, number}
+use Rattle.rules.specs.Model.{compare}
+use Rattle.book.specs.Numbers.{numberOf}
+use Rattle.book.proofs.Soundness.{sound-size}
+use Rattle.asking.proofs.Slots.{reach-bytes, reach-told}
+use Rattle.asking.proofs.Accepted.{Two, slots-two, compare-due, compare-number}
+use borrow.Author.Needs.{needs}
+use Rattle.asking.proofs.compare_number.Statement.{statement}
+use Rattle.asking.proofs.compare_number.Tie as tie
+
+slots-number-requires : tie.Need-slots-number-requires
+slots-number-requires c κs = search needs
+
+returns : tie.Need-returns
+returns c = let a = c .before .before .before .args in let n = c .before .slots-number in compare-due (a .book .now) (a .first) (a .second) (n .result) (n .ensures) (c .if1 .taken)
+
+-- both slots are used
+used : (c : tie.Else1) → Two (c .before .before .before .args .book .now) (c .before .before .before .args .first) (c .before .before .before .args .second)
+used c = let a = c .before .before .before .args in slots-two (a .book .now) (a .first) (a .second) (sym (c .before .slots-number .ensures) ∙ c .if1 .left)
+
+reached : (c : tie.After-out-of-reach2) (o : Bool) → (c .before .before .out-of-reach .result || c .out-of-reach2 .result) ≡ o
+    → pick o (number OutOfReach) 0 ≡ numberOf (c .before .before .before .before .before .before .before .before .args .book .now) (compare (c .before .before .before .before .before .before .before .before .args .first) (c .before .before .before .before .before .before .before .before .args .second))
+reached c o e =
+    let a = c .before .before .before .before .before .before .before .before .args in
+    let s = c .before .before .before .before .setup-of .ensures in
+    let there = reach-told (a .book .now) _ s (a .first) (a .second) _ (c .before .before .before .way-of .ensures) _ (c .before .before .out-of-reach .ensures) in
+    let back = reach-told (a .book .now) _ s (a .second) (a .first) _ (c .before .way-of2 .ensures) _ (c .out-of-reach2 .ensures) in
+    compare-number (a .book .now) (a .first) (a .second) (used (c .before .before .before .before .before)) o ((λ x. there x || back x) ∙ e)
+
+setup-of-requires : tie.Need-setup-of-requires
+setup-of-requires c κs = sound-size _ (used c .whole)
+
+way-of-requires : tie.Need-way-of-requires
+way-of-requires c κs = let u = used (c .before) in ((sound-size _ (u .whole), u .whole), (u .first, u .second))
+
+out-of-reach-requires : tie.Need-out-of-reach-requires
+out-of-reach-requires c κs = reach-bytes _ _ (c .before .setup-of .ensures) (used (c .before .before) .whole)
+
+way-of-requires-2 : tie.Need-way-of-requires-2
+way-of-requires-2 c κs = let u = used (c .before .before .before) in ((sound-size _ (u .whole), u .whole), (u .second, u .first))
+
+out-of-reach-requires-2 : tie.Need-out-of-reach-requires-2
+out-of-reach-requires-2 c κs = reach-bytes _ _ (c .before .before .before .setup-of .ensures) (used (c .before .before .before .before) .whole)
+
+returns-2 : tie.Need-returns-2
+returns-2 c = reached (c .before) true (c .if2 .taken)
+
+returns-3 : tie.Need-returns-3
+returns-3 c = reached (c .before) false (c .if2 .left)
+
+pub compare-number-spec : {M : Type 1} → statement M
+compare-number-spec =
+    tie.close
+    (tie.spec
+    slots-number-requires
+    returns
+    setup-of-requires
+    way-of-requires
+    out-of-reach-requires
+    way-of-requires-2
+    out-of-reach-requires-2
+    returns-2
+    returns-3)

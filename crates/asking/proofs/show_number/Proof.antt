@@ -1,0 +1,16 @@
+-- `asking::show_number` meets its contract.
+-- Assumes nothing.
+use mathlib.Core.Path.{_∙_}
+use Rattle.asking.proofs.Accepted.{show-number}
+use borrow.Author.Needs.{needs}
+use Rattle.asking.proofs.show_number.Statement.{statement}
+use Rattle.asking.proofs.show_number.Tie as tie
+
+slots-number-requires : tie.Need-slots-number-requires
+slots-number-requires c κs = search needs
+
+returns : tie.Need-returns
+returns c = c .slots-number .ensures ∙ show-number _ _
+
+pub show-number-spec : {M : Type 1} → statement M
+show-number-spec = tie.close (tie.spec slots-number-requires returns)

@@ -1,0 +1,103 @@
+-- `asking::way_of` meets its contract.
+-- Assumes nothing.
+use mathlib.Core.Path.{_≡_, _∙_}
+use Prim.Native.Nat.{ℕ, _+_, _*_, _<_}
+use native.Mathlib.Omega.{arith}
+use Rattle.tools.specs.Lists.{byte}
+use Rattle.ring.specs.Phases.{lagOf}
+use Rattle.rules.specs.Model.{byIn}
+use Rattle.book.specs.Layout.{spot}
+use Rattle.book.specs.Numbers.{tablesOf}
+use Rattle.book.proofs.Below.{phase-below}
+use Rattle.asking.proofs.Slots.{slot-place, slot-eight, way-lags}
+use borrow.Author.Needs.{needs}
+use Rattle.asking.proofs.way_of.Statement.{statement}
+use Rattle.asking.proofs.way_of.Tie as tie
+
+owner-of-requires : tie.Need-owner-of-requires
+owner-of-requires c κs = search needs
+
+wide-requires : tie.Need-wide-requires
+wide-requires c κs = search needs
+
+-- the owner of the first slot
+owner : (c : tie.After-wide) → c .wide .result ≡ byIn (tablesOf (c .before .before .before .args .book .now) .shelf (c .before .before .before .args .first))
+owner c = c .wide .ensures ∙ c .before .owner-of .ensures
+
+eight : (c : tie.After-wide) → c .wide .result < 8
+eight c = let a = c .before .before .before in omega (arith, owner c, slot-eight (a .args .book .now) (a .args .first) (a .pre .1 .0) (a .pre .0 .1))
+
+first : (c : tie.After-wide) → c .before .before .before .args .first < 32
+first c = let a = c .before .before .before in slot-place (a .args .book .now) (a .args .first) (a .pre .1 .0)
+
+second : (c : tie.After-wide) → c .before .before .before .args .second < 32
+second c = let a = c .before .before .before in slot-place (a .args .book .now) (a .args .second) (a .pre .1 .1)
+
+-- the phases are on the ring
+own : (c : tie.After-wide)
+    → byte (c .before .before .before .args .book .now) (spot (c .wide .result) (4 + 2 * c .wide .result)) < byte (c .before .before .before .args .book .now) 3
+own c = let e = eight c in phase-below _ (c .before .before .before .pre .0 .1) (c .wide .result) _ (omega arith) e
+
+on-ring : (c : tie.After-wide) {i : ℕ} → i < 32
+    → byte (c .before .before .before .args .book .now) (spot (40 + i) (4 + 2 * c .wide .result)) < byte (c .before .before .before .args .book .now) 3
+on-ring c {i} l = phase-below _ (c .before .before .before .pre .0 .1) (40 + i) _ (omega arith) (eight c)
+
+add-e : tie.Need-add-e
+add-e c = omega (arith, first c)
+
+add-f : tie.Need-add-f
+add-f c = omega (arith, second c)
+
+phases-of-requires : tie.Need-phases-of-requires
+phases-of-requires c κs = search needs
+
+phase-at-requires : tie.Need-phase-at-requires
+phase-at-requires c κs = let g = c .before in let e = eight g in (g .before .before .before .pre .0 .0, omega arith)
+
+phase-at-requires-2 : tie.Need-phase-at-requires-2
+phase-at-requires-2 c κs = let g = c .before .before in (g .before .before .before .pre .0 .0, (omega (arith, first g), eight g))
+
+phase-at-requires-3 : tie.Need-phase-at-requires-3
+phase-at-requires-3 c κs = let g = c .before .before .before in (g .before .before .before .pre .0 .0, (omega (arith, second g), eight g))
+
+lag-requires : tie.Need-lag-requires
+lag-requires c κs = let g = c .before .before .before .before in let o = own g in let b = on-ring g (first g) in omega arith
+
+lag-requires-2 : tie.Need-lag-requires-2
+lag-requires-2 c κs = let g = c .before .before .before .before .before in let o = own g in let b = on-ring g (second g) in omega arith
+
+clock-at-requires : tie.Need-clock-at-requires
+clock-at-requires c κs = let g = c .before .before .before .before .before .before in (g .before .before .before .pre .0 .0, (omega (arith, first g), eight g))
+
+clock-at-requires-2 : tie.Need-clock-at-requires-2
+clock-at-requires-2 c κs = let g = c .before .before .before .before .before .before .before in (g .before .before .before .pre .0 .0, (omega (arith, second g), eight g))
+
+returns : tie.Need-returns
+returns c =
+    let g = c .before .before .before .before .before .before .before .before in
+    let a = g .before .before .before in
+    let p = c .before .before .before .before .before .before .before .phases-of .ensures in
+    let o = c .before .before .before .before .before .before .phase-at .ensures in
+    let e = c .before .before .before .before .before .phase-at2 .ensures in
+    let f = c .before .before .before .before .phase-at3 .ensures in
+    way-lags (a .args .book .now) (a .pre .0 .1) (a .args .first) (a .args .second) (a .pre .1 .0) (a .pre .1 .1) (g .wide .result) (owner g) _ _ _ _
+    (c .before .before .before .lag .ensures ∙ (λ t. lagOf (p t) (o t) (e t))) (c .before .before .lag2 .ensures ∙ (λ t. lagOf (p t) (o t) (f t)))
+    (c .before .clock-at .ensures) (c .clock-at2 .ensures)
+
+pub way-of-spec : {M : Type 1} → statement M
+way-of-spec =
+    tie.close
+    (tie.spec
+    owner-of-requires
+    wide-requires
+    add-e
+    add-f
+    phases-of-requires
+    phase-at-requires
+    phase-at-requires-2
+    phase-at-requires-3
+    lag-requires
+    lag-requires-2
+    clock-at-requires
+    clock-at-requires-2
+    returns)

@@ -1,0 +1,33 @@
+-- Two readings that meet the statement of read are equal.
+-- Assumes nothing.
+use Prim.Native.Nat.{ℕ}
+use mathlib.Core.Path.{_≡_, sym, ap, _∙_}
+use mathlib.Core.List.{List}
+use lib.ListN.{length}
+use Rattle.rules.specs.Model.{Answer}
+use Rattle.rules.specs.Replies.{rowBytes, rowOf}
+use Rattle.book.proofs.Stamped.{bytes-of-row}
+use Rattle.labels.specs.declared.Owner.{Owner}
+use Rattle.labels.specs.declared.Owner.the-variants.{Of, Refused}
+use Rattle.labels.specs.declared.Reading.{Reading}
+use Rattle.labels.specs.Records.{ownerSays, readSays, rowBeside}
+
+pub reading-once : (r r′ : Reading) → readSays r ≡ readSays r′ → rowBeside (r .who) (r .row) → rowBeside (r′ .who) (r′ .row)
+    → length (r .row) ≡ 16 → length (r′ .row) ≡ 16 → r ≡ r′
+reading-once r r′ e b b′ n n′ = go (r .who) (r .row) (r′ .who) (r′ .row) e b b′ n n′
+  where
+    go : (w : Owner) (l : List ℕ) (w′ : Owner) (l′ : List ℕ) → ownerSays w l ≡ ownerSays w′ l′ → rowBeside w l → rowBeside w′ l′
+        → length l ≡ 16 → length l′ ≡ 16
+        → _≡_ {A = Reading} (record { who = w; row = l }) (record { who = w′; row = l′ })
+    go (Of j) l (Of j′) l′ e b b′ n n′ =
+        let v = ap (λ (a : Answer). a .value) e in
+        let o : j ≡ j′ = cc in
+        let q : rowOf l ≡ rowOf l′ = cc in
+        let s : l ≡ l′ = sym (bytes-of-row l n) ∙ ap rowBytes q ∙ bytes-of-row l′ n′ in
+        λ i. record { who = Of (o i); row = s i }
+    go (Of j) l (Refused m) l′ e b b′ n n′ = let v = ap (λ (a : Answer). a .value) e in cc
+    go (Refused m) l (Of j) l′ e b b′ n n′ = let v = ap (λ (a : Answer). a .value) e in cc
+    go (Refused m) l (Refused m′) l′ e b b′ n n′ =
+        let v = ap (λ (a : Answer). a .number) e in
+        let s = b ∙ sym b′ in
+        λ i. record { who = Refused (v i); row = s i }

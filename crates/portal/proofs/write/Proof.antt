@@ -1,0 +1,57 @@
+-- `portal::write` meets its contract.
+-- Assumes nothing.
+use mathlib.Core.Path.{_≡_, sym, ap, _∙_}
+use lib.ListN.{length}
+use Rattle.rules.specs.Model.{write}
+use Rattle.book.specs.Stamps.{filled}
+use Rattle.rules.specs.Calls.{on}
+use Rattle.book.specs.Answers.{answerTo}
+use Rattle.book.proofs.Numbers.{answer-number}
+use Rattle.asking.proofs.Accepted.{write-room}
+use Rattle.portal.proofs.Asked.{write-refused}
+use borrow.Author.Needs.{needs}
+use Rattle.portal.proofs.write.Statement.{statement}
+use Rattle.portal.proofs.write.Tie as tie
+
+write-number-requires : tie.Need-write-number-requires
+write-number-requires c κs = search needs
+
+-- the number that write answers
+answered : (c : tie.After-write-number) → c .write-number .result
+    ≡ answerTo (c .before .before .before .args .book .now) (on (write (c .before .before .before .args .slot) (length (c .before .before .before .args .target .now)))) .number
+answered c = c .write-number .ensures ∙ sym (answer-number _ _)
+
+returns : tie.Need-returns
+returns c =
+    let a = c .before .before .before .before .args in
+    let n = c .before .write-number in
+    (answered (c .before), write-refused (a .book .now) (a .slot) (a .target .now) (n .result) (n .ensures) (c .if1 .taken))
+
+record-at-requires : tie.Need-record-at-requires
+record-at-requires c κs = search needs
+
+fill-first-requires : tie.Need-fill-first-requires
+fill-first-requires c κs =
+    let a = c .before .before .before .before .before .before .args in
+    let e = c .before .before in
+    write-room (a .book .now) (a .slot) _ (sym (e .before .write-number .ensures) ∙ e .if1 .left)
+
+same-length : tie.Need-same-length
+same-length c = search needs
+
+returns-2 : tie.Need-returns-2
+returns-2 c =
+    let a = c .before .before .before .before .before .before .before .before .before .args in
+    let r = c .before .before .before in
+    (sym (r .before .before .if1 .left) ∙ answered (r .before .before .before), c .before .before .fill-first .ensures ∙ ap (filled (a .target .now)) (r .record-at .ensures))
+
+pub write-spec : {M : Type 1} → statement M
+write-spec =
+    tie.close
+    (tie.spec
+    write-number-requires
+    returns
+    record-at-requires
+    fill-first-requires
+    same-length
+    returns-2)
