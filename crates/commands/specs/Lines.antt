@@ -5,7 +5,7 @@
 --   verbs           all verbs, by the length of their lines
 --   choose vs l     the command of the first verb whose line l is; `Bad` where there is none
 --   parseOf l       the command of a line; `Bad` for a line of any other shape
---   startWord, setupAt l   the word start; the numbers of a start line
+--   setupFrom ns, setupAt l   the setup that seven numbers make; that of a start line
 --   callOf c        the call that a command asks for; none for `Bad`
 use Prim.Native.Nat.{ℕ, _+_, _*_}
 use mathlib.Core.Bool.{Bool}
@@ -44,9 +44,6 @@ pub record Verb : Type 0 where
   pub count : ℕ
   pub made : List ℕ → Command
 
-abbrev pub startWord : List ℕ
-startWord = ascii "start"
-
 abbrev pub setupFrom : List ℕ → Setup
 setupFrom ns =
     record {
@@ -70,7 +67,7 @@ verbs =
     ∷ (record { word = ascii "before"; count = 2; made = λ ns. Before (byte ns 0) (byte ns 1) })
     ∷ (record { word = ascii "receive"; count = 2; made = λ ns. Receive (byte ns 0) (byte ns 1) })
     ∷ (record { word = ascii "compare"; count = 2; made = λ ns. Compare (byte ns 0) (byte ns 1) })
-    ∷ (record { word = startWord; count = 7; made = λ ns. Start (setupFrom ns) })
+    ∷ (record { word = ascii "start"; count = 7; made = λ ns. Start (setupFrom ns) })
     ∷ []
 
 unfoldable pub choose : List Verb → List ℕ → Command

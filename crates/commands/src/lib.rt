@@ -1,9 +1,8 @@
 // A line of the listing is read into a command: a verb, then numbers of exactly three digits, with single spaces.
 ghost use mathlib.Core.Path.{_≡_};
-ghost use mathlib.Core.Bool.{true};
 ghost use Prim.Native.Nat.{_+_, _*_, _≤_};
 ghost use lib.ListN.{length};
-ghost use Rattle.commands.specs.Lines.{shaped, startWord, setupAt, parseOf};
+ghost use Rattle.commands.specs.Lines.{shaped, setupAt, parseOf};
 use rules::Setup;
 
 // What a line asks for. The numbers are wide, so that 256 reaches the check that refuses it.
@@ -34,7 +33,7 @@ fn is_shaped(line: &[u8], word: &[u8], n: usize) -> bool
 
 // The numbers of a start line.
 fn setup_of(line: &[u8]) -> Setup
-    requires { ⌜ (length (now line) ≡ 33) × (shaped (now line) startWord 7 ≡ true) ⌝ }
+    requires { ⌜ length (now line) ≡ 33 ⌝ }
     ensures { λ r. ⌜ r ≡ setupAt (now (line .entry)) ⌝ }
 {
     Setup {

@@ -14,15 +14,14 @@
 --   printed-none, printed-line, printed-last   what an input prints, line by line
 use Prim.Native.Nat.{ℕ, zero, suc, _+_, _-_, _<_, _≤_}
 use mathlib.Core.Path.{_≡_, refl, sym, ap, _∙_}
-use mathlib.Core.Bool.{Bool, true, false, not, _&&_}
+use mathlib.Core.Bool.{Bool, true, false, not}
 use mathlib.Core.List.{List, [], _∷_, _++_, append-assoc, append-nil, flatten}
 use native.Mathlib.Numerals.{add-one}
 use native.Mathlib.Omega.{arith}
 use borrow.Author.Tests.{not-true, ne-eqb}
 use lib.Dec.{eqb}
-use lib.ListN.{length, take, drop, getD, length-take, length-append, length-drop}
+use lib.ListN.{length, take, drop, getD, length-take, length-drop}
 use lib.Seq.{take-add, take-suc, take-take, getD-drop}
-use Rattle.tools.specs.Tests.{pick}
 use Rattle.tools.proofs.Tests.{and-true-l, and-true-r, eq-by}
 use Rattle.text.specs.Stream.{
   Answers,

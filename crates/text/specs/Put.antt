@@ -3,7 +3,7 @@
 --   put xs at ys         xs with ys in the place of as many bytes from `at` on
 --   three n              a number in three digits (48 is the digit 0)
 --   field n              a space and a number
---   Wrote xs at s ys n   the text s, for which there was room, was written into xs from `at` on: ys is left, and n is the place after s
+--   Wrote xs at s ys n   the text s, for which there was room, was written into xs from `at` on: ys is left, and n is its end
 use Prim.Native.Nat.{ℕ, _+_, _/_, _%_, _≤_}
 use mathlib.Core.Path.{_≡_}
 use mathlib.Core.List.{List, [], _∷_, _++_}

@@ -1,6 +1,5 @@
 // Bytes in lent slices: words, numbers and lines are found among them, or are written from a place on.
 ghost use mathlib.Core.Path.{_≡_};
-ghost use mathlib.Core.Bool.{true};
 ghost use mathlib.Core.List.{[], _∷_, _++_};
 ghost use Prim.Native.Nat.{_+_, _*_, _-_, _<_, _≤_};
 ghost use lib.ListN.{length, take};
@@ -49,17 +48,19 @@ fn is_number(line: &[u8], at: usize) -> bool
         & (is_digit(line[at + 1]) & (is_digit(line[at + 2]) & is_digit(line[at + 3])))
 }
 
-// What a digit counts.
+// What a digit counts; 0 for a byte below the digits.
 fn worth(b: u8) -> usize
-    requires { ⌜ (48 ≤ b) × (b ≤ 57) ⌝ }
-    ensures { λ r. ⌜ (r ≡ b - 48) × (r ≤ 9) ⌝ }
+    ensures { λ r. ⌜ (r ≡ b - 48) × (r ≤ 255) ⌝ }
 {
+    if b < b'0' {
+        return 0;
+    }
     tools::wide(b - b'0')
 }
 
 // The number whose digits stand after a place.
 pub fn number(line: &[u8], at: usize) -> usize
-    requires { ⌜ (at + 4 ≤ length (now line)) × (isNumber (now line) at ≡ true) ⌝ }
+    requires { ⌜ at + 4 ≤ length (now line) ⌝ }
     ensures { λ r. ⌜ r ≡ numberAt (now (line .entry)) at ⌝ }
 {
     100 * worth(line[at + 1]) + 10 * worth(line[at + 2]) + worth(line[at + 3])

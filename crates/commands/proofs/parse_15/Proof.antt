@@ -1,35 +1,11 @@
 -- `commands::parse_15` meets its contract. Assumes nothing.
 use Rattle.tools.specs.Lists.{tab}
-use Rattle.text.specs.Words.{ascii}
-use Rattle.text.specs.Digits.{isNumber}
 use Rattle.commands.specs.Lines.{verbs, choose}
-use Rattle.commands.proofs.Shapes.{number-there, sift}
-use native.Mathlib.Omega.{arith}
-use lib.ListN.{length}
-use mathlib.Core.Bool.{true}
-use mathlib.Core.Path.{_≡_, sym, _∙_}
-use Prim.Native.Nat.{ℕ, _+_, _*_, _<_, _≤_}
+use Rattle.commands.proofs.Shapes.{sift}
+use mathlib.Core.Path.{sym, _∙_}
 use borrow.Author.Needs.{needs}
 use Rattle.commands.proofs.parse_15.Statement.{statement}
 use Rattle.commands.proofs.parse_15.Tie as tie
-
-there1
-    : (c : tie.Then1) (i : ℕ)
-    → i < 2
-    → (7 + 4 * i + 4 ≤ length (c .before .before .before .before .args .line .now)) × (isNumber (c .before .before .before .before .args .line .now) (7 + 4 * i) ≡ true)
-there1 c i l = (
-  omega arith,
-  number-there (c .before .before .before .before .args .line .now) (ascii "receive") 2 (sym (c .before .is-shaped .ensures) ∙ c .if1 .taken) i l,
-)
-
-there2
-    : (c : tie.Then2) (i : ℕ)
-    → i < 2
-    → (7 + 4 * i + 4 ≤ length (c .before .before .before .before .before .before .before .args .line .now)) × (isNumber (c .before .before .before .before .before .before .before .args .line .now) (7 + 4 * i) ≡ true)
-there2 c i l = (
-  omega arith,
-  number-there (c .before .before .before .before .before .before .before .args .line .now) (ascii "compare") 2 (sym (c .before .is-shaped2 .ensures) ∙ c .if2 .taken) i l,
-)
 
 slice-aggregate-is-shaped : tie.Need-slice-aggregate-is-shaped
 slice-aggregate-is-shaped c = search needs
@@ -38,17 +14,16 @@ is-shaped-requires : tie.Need-is-shaped-requires
 is-shaped-requires c κs = search needs
 
 number-requires : tie.Need-number-requires
-number-requires c κs = there1 (c) 0 (omega arith)
+number-requires c κs = search needs
 
 number-requires-2 : tie.Need-number-requires-2
-number-requires-2 c κs = there1 (c .before) 1 (omega arith)
+number-requires-2 c κs = search needs
 
 returns : tie.Need-returns
 unfolding verbs choose tab
 returns c =
     let t = c .before .before in
-    let s = t .before .before .before .before in
-    rw (sift _ 15 (s .pre), sym (t .before .is-shaped .ensures) ∙ t .if1 .taken) (cc)
+    rw (sift _ 15 (t .before .before .before .before .pre), sym (t .before .is-shaped .ensures) ∙ t .if1 .taken) (cc)
 
 slice-aggregate-is-shaped-2 : tie.Need-slice-aggregate-is-shaped-2
 slice-aggregate-is-shaped-2 c = search needs
@@ -57,23 +32,23 @@ is-shaped-requires-2 : tie.Need-is-shaped-requires-2
 is-shaped-requires-2 c κs = search needs
 
 number-requires-3 : tie.Need-number-requires-3
-number-requires-3 c κs = there2 (c) 0 (omega arith)
+number-requires-3 c κs = search needs
 
 number-requires-4 : tie.Need-number-requires-4
-number-requires-4 c κs = there2 (c .before) 1 (omega arith)
+number-requires-4 c κs = search needs
 
 returns-2 : tie.Need-returns-2
 unfolding verbs choose tab
 returns-2 c =
     let t = c .before .before in
-    let s = t .before .before .before .before .before .before .before in
-    rw (sift _ 15 (s .pre), sym (t .before .before .before .before .is-shaped .ensures) ∙ t .before .before .before .if1 .left, sym (t .before .is-shaped2 .ensures) ∙ t .if2 .taken) (cc)
+    let f = t .before .before .before in
+    rw (sift _ 15 (t .before .before .before .before .before .before .before .pre), sym (f .before .is-shaped .ensures) ∙ f .if1 .left, sym (t .before .is-shaped2 .ensures) ∙ t .if2 .taken) (cc)
 
 returns-3 : tie.Need-returns-3
 unfolding verbs choose tab
 returns-3 c =
-    let s = c .before .before .before .before .before .before .before in
-    rw (sift _ 15 (s .pre), sym (c .before .before .before .before .is-shaped .ensures) ∙ c .before .before .before .if1 .left, sym (c .before .is-shaped2 .ensures) ∙ c .if2 .left)
+    let f = c .before .before .before in
+    rw (sift _ 15 (c .before .before .before .before .before .before .before .pre), sym (f .before .is-shaped .ensures) ∙ f .if1 .left, sym (c .before .is-shaped2 .ensures) ∙ c .if2 .left)
 
 pub parse-15-spec : {M : Type 1} → statement M
 parse-15-spec =

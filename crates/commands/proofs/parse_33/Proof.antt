@@ -2,7 +2,6 @@
 use Rattle.tools.specs.Lists.{tab}
 use Rattle.commands.specs.Lines.{verbs, choose}
 use Rattle.commands.proofs.Shapes.{sift}
-use native.Mathlib.Omega.{arith}
 use mathlib.Core.Path.{sym, _∙_}
 use borrow.Author.Needs.{needs}
 use Rattle.commands.proofs.parse_33.Statement.{statement}
@@ -15,20 +14,18 @@ is-shaped-requires : tie.Need-is-shaped-requires
 is-shaped-requires c κs = search needs
 
 setup-of-requires : tie.Need-setup-of-requires
-setup-of-requires c κs = (omega arith, sym (c .before .is-shaped .ensures) ∙ c .if1 .taken)
+setup-of-requires c κs = search needs
 
 returns : tie.Need-returns
 unfolding verbs choose tab
 returns c =
     let t = c .before in
-    let s = t .before .before .before .before in
-    rw (sift _ 33 (s .pre), sym (t .before .is-shaped .ensures) ∙ t .if1 .taken) (cc)
+    rw (sift _ 33 (t .before .before .before .before .pre), sym (t .before .is-shaped .ensures) ∙ t .if1 .taken) (cc)
 
 returns-2 : tie.Need-returns-2
 unfolding verbs choose tab
 returns-2 c =
-    let s = c .before .before .before .before in
-    rw (sift _ 33 (s .pre), sym (c .before .is-shaped .ensures) ∙ c .if1 .left)
+    rw (sift _ 33 (c .before .before .before .before .pre), sym (c .before .is-shaped .ensures) ∙ c .if1 .left)
 
 pub parse-33-spec : {M : Type 1} → statement M
 parse-33-spec =

@@ -1,35 +1,11 @@
 -- `commands::parse_9` meets its contract. Assumes nothing.
 use Rattle.tools.specs.Lists.{tab}
-use Rattle.text.specs.Words.{ascii}
-use Rattle.text.specs.Digits.{isNumber}
 use Rattle.commands.specs.Lines.{verbs, choose}
-use Rattle.commands.proofs.Shapes.{number-there, sift}
-use native.Mathlib.Omega.{arith}
-use lib.ListN.{length}
-use mathlib.Core.Bool.{true}
-use mathlib.Core.Path.{_≡_, sym, _∙_}
-use Prim.Native.Nat.{ℕ, _+_, _*_, _<_, _≤_}
+use Rattle.commands.proofs.Shapes.{sift}
+use mathlib.Core.Path.{sym, _∙_}
 use borrow.Author.Needs.{needs}
 use Rattle.commands.proofs.parse_9.Statement.{statement}
 use Rattle.commands.proofs.parse_9.Tie as tie
-
-there1
-    : (c : tie.Then1) (i : ℕ)
-    → i < 1
-    → (5 + 4 * i + 4 ≤ length (c .before .before .before .before .args .line .now)) × (isNumber (c .before .before .before .before .args .line .now) (5 + 4 * i) ≡ true)
-there1 c i l = (
-  omega arith,
-  number-there (c .before .before .before .before .args .line .now) (ascii "local") 1 (sym (c .before .is-shaped .ensures) ∙ c .if1 .taken) i l,
-)
-
-there2
-    : (c : tie.Then2) (i : ℕ)
-    → i < 1
-    → (5 + 4 * i + 4 ≤ length (c .before .before .before .before .before .before .before .args .line .now)) × (isNumber (c .before .before .before .before .before .before .before .args .line .now) (5 + 4 * i) ≡ true)
-there2 c i l = (
-  omega arith,
-  number-there (c .before .before .before .before .before .before .before .args .line .now) (ascii "reset") 1 (sym (c .before .is-shaped2 .ensures) ∙ c .if2 .taken) i l,
-)
 
 slice-aggregate-is-shaped : tie.Need-slice-aggregate-is-shaped
 slice-aggregate-is-shaped c = search needs
@@ -38,14 +14,13 @@ is-shaped-requires : tie.Need-is-shaped-requires
 is-shaped-requires c κs = search needs
 
 number-requires : tie.Need-number-requires
-number-requires c κs = there1 (c) 0 (omega arith)
+number-requires c κs = search needs
 
 returns : tie.Need-returns
 unfolding verbs choose tab
 returns c =
     let t = c .before in
-    let s = t .before .before .before .before in
-    rw (sift _ 9 (s .pre), sym (t .before .is-shaped .ensures) ∙ t .if1 .taken) (cc)
+    rw (sift _ 9 (t .before .before .before .before .pre), sym (t .before .is-shaped .ensures) ∙ t .if1 .taken) (cc)
 
 slice-aggregate-is-shaped-2 : tie.Need-slice-aggregate-is-shaped-2
 slice-aggregate-is-shaped-2 c = search needs
@@ -54,20 +29,20 @@ is-shaped-requires-2 : tie.Need-is-shaped-requires-2
 is-shaped-requires-2 c κs = search needs
 
 number-requires-2 : tie.Need-number-requires-2
-number-requires-2 c κs = there2 (c) 0 (omega arith)
+number-requires-2 c κs = search needs
 
 returns-2 : tie.Need-returns-2
 unfolding verbs choose tab
 returns-2 c =
     let t = c .before in
-    let s = t .before .before .before .before .before .before .before in
-    rw (sift _ 9 (s .pre), sym (t .before .before .before .before .is-shaped .ensures) ∙ t .before .before .before .if1 .left, sym (t .before .is-shaped2 .ensures) ∙ t .if2 .taken) (cc)
+    let f = t .before .before .before in
+    rw (sift _ 9 (t .before .before .before .before .before .before .before .pre), sym (f .before .is-shaped .ensures) ∙ f .if1 .left, sym (t .before .is-shaped2 .ensures) ∙ t .if2 .taken) (cc)
 
 returns-3 : tie.Need-returns-3
 unfolding verbs choose tab
 returns-3 c =
-    let s = c .before .before .before .before .before .before .before in
-    rw (sift _ 9 (s .pre), sym (c .before .before .before .before .is-shaped .ensures) ∙ c .before .before .before .if1 .left, sym (c .before .is-shaped2 .ensures) ∙ c .if2 .left)
+    let f = c .before .before .before in
+    rw (sift _ 9 (c .before .before .before .before .before .before .before .pre), sym (f .before .is-shaped .ensures) ∙ f .if1 .left, sym (c .before .is-shaped2 .ensures) ∙ c .if2 .left)
 
 pub parse-9-spec : {M : Type 1} → statement M
 parse-9-spec =

@@ -5,7 +5,6 @@ use Rattle.text.proofs.Writing.{wrote-length}
 use Rattle.replies.proofs.Lengths.{pairs-length}
 use borrow.Author.Tests.{eq-eqb, ne-eqb}
 use native.Mathlib.Omega.{arith}
-use mathlib.Core.Path.{ap}
 use Prim.Native.Nat.{_≤_}
 use borrow.Author.Needs.{needs}
 use Rattle.replies.proofs.put_stamped.Statement.{statement}

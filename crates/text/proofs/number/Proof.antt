@@ -1,13 +1,8 @@
 -- `text::number` meets its contract. Assumes nothing.
 use Rattle.text.specs.Digits.{numberAt}
-use Rattle.text.proofs.Numerals.{Digits, digits}
-use native.Mathlib.Omega.{arith}
 use borrow.Author.Needs.{needs}
 use Rattle.text.proofs.number.Statement.{statement}
 use Rattle.text.proofs.number.Tie as tie
-
-there : (c : tie.Start) → Digits (c .args .line .now) (c .args .at)
-there c = digits (c .args .line .now) (c .args .at) (c .pre .1)
 
 add-worth : tie.Need-add-worth
 add-worth c = search needs
@@ -16,7 +11,7 @@ shared-slice-read-worth : tie.Need-shared-slice-read-worth
 shared-slice-read-worth c = search needs
 
 worth-requires : tie.Need-worth-requires
-worth-requires c κs = omega (arith, there (c .before .before))
+worth-requires c κs = search needs
 
 mul-result : tie.Need-mul-result
 mul-result c = search needs
@@ -28,7 +23,7 @@ shared-slice-read-worth-2 : tie.Need-shared-slice-read-worth-2
 shared-slice-read-worth-2 c = search needs
 
 worth-requires-2 : tie.Need-worth-requires-2
-worth-requires-2 c κs = omega (arith, there (c .before .before .before .before))
+worth-requires-2 c κs = search needs
 
 mul-result-2 : tie.Need-mul-result-2
 mul-result-2 c = search needs
@@ -43,7 +38,7 @@ shared-slice-read-worth-3 : tie.Need-shared-slice-read-worth-3
 shared-slice-read-worth-3 c = search needs
 
 worth-requires-3 : tie.Need-worth-requires-3
-worth-requires-3 c κs = omega (arith, there (c .before .before .before .before .before .before))
+worth-requires-3 c κs = search needs
 
 add-result-2 : tie.Need-add-result-2
 add-result-2 c = search needs
