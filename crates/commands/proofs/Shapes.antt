@@ -3,6 +3,7 @@
 --   sift          of all verbs, those whose lines are as long as the line decide
 --   number-there  a number of a line that has a verb's shape
 --   bad-length    a line of a length that no verb's line has
+--   long-bad      a line that is longer than every verb's
 --   kept-enough   the bytes of a line that are kept tell as much as the whole
 use Prim.Native.Nat.{ℕ, _+_, _*_, _<_, _≤_}
 use mathlib.Core.Path.{_≡_, refl, sym, ap, _∙_}
@@ -74,7 +75,7 @@ bad-length l a b c d e f g =
       ne-eqb (length l) 33 g,
     )
 
-long-bad : (l : List ℕ) → 33 < length l → parseOf l ≡ Bad
+pub long-bad : (l : List ℕ) → 33 < length l → parseOf l ≡ Bad
 long-bad l h =
     bad-length l (λ e. omega arith) (λ e. omega arith) (λ e. omega arith) (λ e. omega arith) (λ e. omega arith)
     (λ e. omega arith) (λ e. omega arith)

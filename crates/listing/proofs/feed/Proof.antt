@@ -1,0 +1,144 @@
+-- `listing::feed` meets its contract. Assumes nothing.
+use Rattle.text.specs.Stream.{held, lineOf}
+use Rattle.text.proofs.Writing.{none, then}
+use Rattle.text.proofs.Streams.{quiet, gathers, first-plain, first-text, first-after}
+use Rattle.listing.specs.Answering.{lineText, lineBook, answering}
+use Rattle.listing.proofs.Listings.{blind}
+use native.Mathlib.Omega.{arith}
+use lib.ListN.{length, take, drop, length-take, length-drop}
+use lib.Seq.{take-all, length-take-le}
+use mathlib.Core.List.{List, _++_}
+use mathlib.Core.Path.{_≡_, sym, ap, _∙_}
+use Prim.Native.Nat.{ℕ, _+_, _-_, _<_, _≤_}
+use borrow.Author.Needs.{needs}
+use Rattle.listing.proofs.feed.Statement.{statement}
+use Rattle.listing.proofs.feed.Tie as tie
+
+-- the array is as long as its type says
+size : (c : tie.Else1) → length (c .before .longer .result .line) ≡ 65
+size c = search needs
+
+line-end-requires : tie.Need-line-end-requires
+line-end-requires c κs = search needs
+
+-- what is taken in lies within the piece
+taken
+    : (c : tie.After-struct-known)
+    → c .before .before .before .before .before .before .before .before .before .before .before .before .before .before .before .before .before .before .before .before .before .before .line-end .result + 1 + c .before .before .before .before .before .before .feed-lines .result .used ≤ length (c .before .before .before .before .before .before .before .before .before .before .before .before .before .before .before .before .before .before .before .before .before .before .before .before .before .before .args .piece .now)
+taken c =
+    let e = c .before .before .before .before .before .before .before .before .before .before .before .before .before .before .before .before .before .before .before .before .before .before .line-end in
+    omega (
+      arith,
+      e .ensures .within,
+      c .before .before .before .before .before .before .before .before .before .before .before .before .before .before .before .before .before .before .before .if1 .left,
+      simp (length-take, length-drop) at (c .before .before .before .before .before .before .feed-lines .ensures .1 .within),
+    )
+
+slice-aggregate-longer : tie.Need-slice-aggregate-longer
+slice-aggregate-longer c = sym (length-take-le _ _ (omega arith))
+
+longer-requires : tie.Need-longer-requires
+longer-requires c κs = search needs
+
+returns : tie.Need-returns
+returns c =
+    let a = c .before .before .before .before .before .before .before .args in
+    let s = held (a .book .now) (a .p) in
+    let e = c .before .before .before .line-end in
+    let xs = a .piece .now in (
+      rw (quiet answering s (take (e .result) xs) (first-plain answering s xs (e .result) (e .ensures)))
+          (none (a .out .now) 0 (omega arith)),
+      (
+        record {
+          within = omega arith;
+          few = c .before .longer .ensures .0;
+          left =
+              rw (gathers answering s (take (e .result) xs) (first-plain answering s xs (e .result) (e .ensures)))
+              (ap (λ (l : List ℕ). record { book = a .book .now; line = l }) (c .before .longer .ensures .1));
+        },
+        λ l. omega arith,
+      ),
+    )
+
+array-share-prefix-line : tie.Need-array-share-prefix-line
+array-share-prefix-line c = omega (arith, size (c .before .before .before))
+
+slice-aggregate-answer : tie.Need-slice-aggregate-answer
+slice-aggregate-answer c = sym (length-take-le _ _ (omega (arith, size (c .before .before .before .before))))
+
+answer-requires : tie.Need-answer-requires
+answer-requires c κs = search needs
+
+add-rest : tie.Need-add-rest
+add-rest c = search needs
+
+sub-feed-lines : tie.Need-sub-feed-lines
+sub-feed-lines c = search needs
+
+part-feed-lines-start : tie.Need-part-feed-lines-start
+part-feed-lines-start c = search needs
+
+part-feed-lines-end : tie.Need-part-feed-lines-end
+part-feed-lines-end c = search needs
+
+feed-lines-requires : tie.Need-feed-lines-requires
+feed-lines-requires c κs = search needs
+
+add-t15 : tie.Need-add-t15
+add-t15 c = omega (arith, c .before .before .before .before .before .before .before .before .before .before .before .before .before .before .before .before .before .before .before .before .before .before .before .before .before .before .pre, c .before .before .before .before .before .before .before .before .before .before .before .before .before .before .before .before .before .before .before .before .before .before .before .before .before .before .good, taken c)
+
+same-length : tie.Need-same-length
+same-length c = search needs
+
+same-length-2 : tie.Need-same-length-2
+same-length-2 c = search needs
+
+returns-2 : tie.Need-returns-2
+returns-2 c =
+    let a = c .before .before .before .before .before .before .before .before .before .before .before .before .before .before .before .before .before .before .before .before .before .before .before .before .before .before .args in
+    let b = a .book .now in
+    let xs = a .piece .now in
+    let s = held b (a .p) in
+    let e = c .before .before .before .before .before .before .before .before .before .before .before .before .before .before .before .before .before .before .before .before .before .before .line-end in
+    let f = c .before .before .before .before .before .before .feed-lines in
+    let u = f .result .used in
+    let told = c .before .before .before .before .before .before .before .before .before .before .before .before .before .before .answer .ensures in
+    let l : e .result < length xs = omega (arith, e .ensures .within, c .before .before .before .before .before .before .before .before .before .before .before .before .before .before .before .before .before .before .before .if1 .left) in
+    let whole = lineOf (a .p) ++ take (e .result) xs in
+    let line = c .before .before .before .before .before .before .before .before .before .before .before .before .before .before .before .before .before .before .before .before .longer .ensures .1 in
+    let w : take (length xs - (e .result + 1)) (drop (e .result + 1) xs) ≡ drop (e .result + 1) xs =
+    take-all (length xs - (e .result + 1)) (drop (e .result + 1) xs) (simp length-drop (omega arith)) in
+    let text : lineText b (lineOf (c .before .before .before .before .before .before .before .before .before .before .before .before .before .before .before .before .before .before .before .before .longer .result)) ≡ lineText b whole = ap (lineText b) line ∙ blind .says b whole in
+    let book : _ ≡ lineBook b whole = told .1 ∙ ap (lineBook b) line ∙ blind .leaves b whole in (
+      rw (first-text answering s xs (e .result) (e .ensures) l u)
+          (then (rw text at (told .0)) (rw (book, w) at (f .ensures .0))),
+      (
+        record {
+          within = taken c;
+          few = f .ensures .1 .few;
+          left = rw (first-after answering s xs (e .result) (e .ensures) l u) (rw (book, w) at (f .ensures .1 .left));
+        },
+        λ _. omega arith,
+      ),
+    )
+
+pub feed-spec : {M : Type 1} → statement M
+feed-spec =
+    tie.close
+    (tie.spec
+    line-end-requires
+    slice-aggregate-longer
+    longer-requires
+    returns
+    array-share-prefix-line
+    slice-aggregate-answer
+    answer-requires
+    add-rest
+    sub-feed-lines
+    part-feed-lines-start
+    part-feed-lines-end
+    feed-lines-requires
+    add-t15
+    same-length
+    same-length-2
+    returns-2)
