@@ -34,7 +34,7 @@ setup-of-requires : tie.Need-setup-of-requires
 setup-of-requires c κs = sound-size _ (used c .whole)
 
 way-of-requires : tie.Need-way-of-requires
-way-of-requires c κs = let u = used (c .before) in ((sound-size _ (u .whole), u .whole), (u .first, u .second))
+way-of-requires c κs = let u = used (c .before) in let z = sound-size _ (u .whole) in search needs
 
 out-of-reach-requires : tie.Need-out-of-reach-requires
 out-of-reach-requires c κs = reach-bytes _ _ (c .before .setup-of .ensures) (used (c .before .before) .whole)

@@ -36,13 +36,13 @@ setup-of-requires : tie.Need-setup-of-requires
 setup-of-requires c κs = sound-size _ (used c .whole)
 
 way-of-requires : tie.Need-way-of-requires
-way-of-requires c κs = let u = used (c .before) in ((sound-size _ (u .whole), u .whole), (u .first, u .second))
+way-of-requires c κs = let u = used (c .before) in let z = sound-size _ (u .whole) in search needs
 
 out-of-reach-requires : tie.Need-out-of-reach-requires
 out-of-reach-requires c κs = reach-bytes _ _ (c .before .setup-of .ensures) (used (c .before .before) .whole)
 
 way-of-requires-2 : tie.Need-way-of-requires-2
-way-of-requires-2 c κs = let u = used (c .before .before .before) in ((sound-size _ (u .whole), u .whole), (u .second, u .first))
+way-of-requires-2 c κs = let u = used (c .before .before .before) in let z = sound-size _ (u .whole) in search needs
 
 out-of-reach-requires-2 : tie.Need-out-of-reach-requires-2
 out-of-reach-requires-2 c κs = reach-bytes _ _ (c .before .before .before .setup-of .ensures) (used (c .before .before .before .before) .whole)

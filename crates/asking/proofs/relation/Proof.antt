@@ -17,10 +17,10 @@ owner-of-requires-2 : tie.Need-owner-of-requires-2
 owner-of-requires-2 c κs = let u = used (c .before .before) in (sound-size _ (u .whole), u .second)
 
 way-of-requires : tie.Need-way-of-requires
-way-of-requires c κs = let u = used (c .before .before .before) in ((sound-size _ (u .whole), u .whole), (u .first, u .second))
+way-of-requires c κs = let u = used (c .before .before .before) in let z = sound-size _ (u .whole) in search needs
 
 way-of-requires-2 : tie.Need-way-of-requires-2
-way-of-requires-2 c κs = let u = used (c .before .before .before .before) in ((sound-size _ (u .whole), u .whole), (u .second, u .first))
+way-of-requires-2 c κs = let u = used (c .before .before .before .before) in let z = sound-size _ (u .whole) in search needs
 
 relation-requires : tie.Need-relation-requires
 relation-requires c κs = search needs

@@ -2,6 +2,7 @@
 -- Assumes nothing.
 use mathlib.Core.Path.{_≡_, _∙_}
 use Prim.Native.Nat.{ℕ, _+_, _*_, _<_}
+use mathlib.Core.List.{List}
 use native.Mathlib.Omega.{arith}
 use Rattle.tools.specs.Lists.{byte}
 use Rattle.ring.specs.Phases.{lagOf}
@@ -20,6 +21,10 @@ owner-of-requires c κs = search needs
 wide-requires : tie.Need-wide-requires
 wide-requires c κs = search needs
 
+abbrev RingAt : List ℕ → ℕ → ℕ → ℕ → Type 0
+RingAt s j i k =
+    (byte s (spot j (4 + 2 * j)) < byte s 3) × (byte s (spot (40 + i) (4 + 2 * j)) < byte s 3) × (byte s (spot (40 + k) (4 + 2 * j)) < byte s 3)
+
 -- the owner of the first slot
 owner : (c : tie.After-wide) → c .wide .result ≡ byIn (tablesOf (c .before .before .before .args .book .now) .shelf (c .before .before .before .args .first))
 owner c = c .wide .ensures ∙ c .before .owner-of .ensures
@@ -27,50 +32,53 @@ owner c = c .wide .ensures ∙ c .before .owner-of .ensures
 eight : (c : tie.After-wide) → c .wide .result < 8
 eight c = let a = c .before .before .before in omega (arith, owner c, slot-eight (a .args .book .now) (a .args .first) (a .pre .1 .0) (a .pre .0 .1))
 
-first : (c : tie.After-wide) → c .before .before .before .args .first < 32
-first c = let a = c .before .before .before in slot-place (a .args .book .now) (a .args .first) (a .pre .1 .0)
-
-second : (c : tie.After-wide) → c .before .before .before .args .second < 32
-second c = let a = c .before .before .before in slot-place (a .args .book .now) (a .args .second) (a .pre .1 .1)
+-- both slots are on the shelf
+below : (c : tie.After-wide) → (c .before .before .before .args .first < 32) × (c .before .before .before .args .second < 32)
+below c =
+    let a = c .before .before .before in
+    (slot-place (a .args .book .now) (a .args .first) (a .pre .1 .0), slot-place (a .args .book .now) (a .args .second) (a .pre .1 .1))
 
 -- the phases are on the ring
-own : (c : tie.After-wide)
-    → byte (c .before .before .before .args .book .now) (spot (c .wide .result) (4 + 2 * c .wide .result)) < byte (c .before .before .before .args .book .now) 3
-own c = let e = eight c in phase-below _ (c .before .before .before .pre .0 .1) (c .wide .result) _ (omega arith) e
+on-ring : (c : tie.After-wide) (k : ℕ) → k < 72
+    → byte (c .before .before .before .args .book .now) (spot k (4 + 2 * c .wide .result)) < byte (c .before .before .before .args .book .now) 3
+on-ring c k l = phase-below _ (c .before .before .before .pre .0 .1) k _ l (eight c)
 
-on-ring : (c : tie.After-wide) {i : ℕ} → i < 32
-    → byte (c .before .before .before .args .book .now) (spot (40 + i) (4 + 2 * c .wide .result)) < byte (c .before .before .before .args .book .now) 3
-on-ring c {i} l = phase-below _ (c .before .before .before .pre .0 .1) (40 + i) _ (omega arith) (eight c)
+all-on-ring : (c : tie.After-wide) → RingAt (c .before .before .before .args .book .now) (c .wide .result) (c .before .before .before .args .first) (c .before .before .before .args .second)
+all-on-ring c =
+    let a = c .before .before .before .args in
+    let b = below c in
+    let e = eight c in
+    (on-ring c (c .wide .result) (omega arith), on-ring c (40 + a .first) (omega arith), on-ring c (40 + a .second) (omega arith))
 
 add-e : tie.Need-add-e
-add-e c = omega (arith, first c)
+add-e c = omega (arith, below c)
 
 add-f : tie.Need-add-f
-add-f c = omega (arith, second c)
+add-f c = omega (arith, below c)
 
 phases-of-requires : tie.Need-phases-of-requires
 phases-of-requires c κs = search needs
 
 phase-at-requires : tie.Need-phase-at-requires
-phase-at-requires c κs = let g = c .before in let e = eight g in (g .before .before .before .pre .0 .0, omega arith)
+phase-at-requires c κs = let g = c .before in let b = below g in let e = eight g in (g .before .before .before .pre .0 .0, omega arith)
 
 phase-at-requires-2 : tie.Need-phase-at-requires-2
-phase-at-requires-2 c κs = let g = c .before .before in (g .before .before .before .pre .0 .0, (omega (arith, first g), eight g))
+phase-at-requires-2 c κs = let g = c .before .before in let b = below g in let e = eight g in (g .before .before .before .pre .0 .0, omega arith)
 
 phase-at-requires-3 : tie.Need-phase-at-requires-3
-phase-at-requires-3 c κs = let g = c .before .before .before in (g .before .before .before .pre .0 .0, (omega (arith, second g), eight g))
+phase-at-requires-3 c κs = let g = c .before .before .before in let b = below g in let e = eight g in (g .before .before .before .pre .0 .0, omega arith)
 
 lag-requires : tie.Need-lag-requires
-lag-requires c κs = let g = c .before .before .before .before in let o = own g in let b = on-ring g (first g) in omega arith
+lag-requires c κs = let r = all-on-ring (c .before .before .before .before) in omega arith
 
 lag-requires-2 : tie.Need-lag-requires-2
-lag-requires-2 c κs = let g = c .before .before .before .before .before in let o = own g in let b = on-ring g (second g) in omega arith
+lag-requires-2 c κs = let r = all-on-ring (c .before .before .before .before .before) in omega arith
 
 clock-at-requires : tie.Need-clock-at-requires
-clock-at-requires c κs = let g = c .before .before .before .before .before .before in (g .before .before .before .pre .0 .0, (omega (arith, first g), eight g))
+clock-at-requires c κs = let g = c .before .before .before .before .before .before in let b = below g in let e = eight g in (g .before .before .before .pre .0 .0, omega arith)
 
 clock-at-requires-2 : tie.Need-clock-at-requires-2
-clock-at-requires-2 c κs = let g = c .before .before .before .before .before .before .before in (g .before .before .before .pre .0 .0, (omega (arith, second g), eight g))
+clock-at-requires-2 c κs = let g = c .before .before .before .before .before .before .before in let b = below g in let e = eight g in (g .before .before .before .pre .0 .0, omega arith)
 
 returns : tie.Need-returns
 returns c =
