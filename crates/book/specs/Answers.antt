@@ -5,9 +5,10 @@
 --   answerTo s c   the answer to the call c on the bytes s: number and value, BadBook first
 --   bookAfter s c  the bytes that the call c leaves: the same ones where it is refused
 --   partIn v       the sixteen bytes that a show hands back with the value v; none with any other value
---   recordIn D v   the stamp record that a write fills in with the value v; none with any other value
+--   recordIn D v   the stamp record of a value v that is a stamp, with or without a place; none with any other value
 --   partOf s k     what show of slot k hands back of the bytes s
 --   targetAfter s k t   what write of slot k makes of the target t
+--   beforeOf X a b, compareOf X a b   the answers to before and compare off the book, of the records a and b under the setup X
 use Prim.Native.Nat.{ℕ, zero, suc}
 use mathlib.Core.Bool.{Bool}
 use mathlib.Core.List.{List, []}
@@ -28,12 +29,14 @@ use Rattle.rules.specs.Model.{
   Answer,
   refusal,
 }
+use Rattle.rules.specs.declared.Setup.{Setup}
 use Rattle.rules.specs.Numbers.{BadBook, number}
 use Rattle.rules.specs.Calls.{Call, start, on, Turn, ringOf, call}
+use Rattle.rules.specs.Labels.{beforeOff, compareOff}
 use Rattle.rules.specs.Replies.{rowBytes}
 use Rattle.book.specs.Sound.{sound}
 use Rattle.book.specs.Codec.{decode, encode}
-use Rattle.book.specs.Stamps.{writeStamp, filled}
+use Rattle.book.specs.Stamps.{writeStamp, readStamp, filled}
 
 unfoldable pub admits : List ℕ → Call → Bool
 admits s (start X) = eqb (length s) 1456
@@ -64,7 +67,7 @@ partIn (shows r) = rowBytes r
 abbrev pub recordIn : ℕ → Value → List ℕ
 recordIn D nothing = []
 recordIn D (stamp j r) = writeStamp D (record { owner = j; row = r })
-recordIn D (sent p j r) = []
+recordIn D (sent p j r) = writeStamp D (record { owner = j; row = r })
 recordIn D (slot i) = []
 recordIn D (says t) = []
 recordIn D (relates r) = []
@@ -75,3 +78,9 @@ partOf s k = partIn (answerTo s (on (show k)) .value)
 
 abbrev pub targetAfter : List ℕ → ℕ → List ℕ → List ℕ
 targetAfter s k t = filled t (recordIn (decode s .setup .desks) (answerTo s (on (write k (length t))) .value))
+
+abbrev pub beforeOf : Setup → List ℕ → List ℕ → Answer
+beforeOf X a b = beforeOff X (readStamp X a) (readStamp X b)
+
+abbrev pub compareOf : Setup → List ℕ → List ℕ → Answer
+compareOf X a b = compareOff X (readStamp X a) (readStamp X b)

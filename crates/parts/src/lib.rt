@@ -1,4 +1,4 @@
-// The numbers of a book in its bytes, its marks, and one record written.
+// The numbers of a book in its bytes, its marks, one record written, and a lent buffer filled.
 ghost use mathlib.Core.Path.{_≡_};
 ghost use Prim.Native.Nat.{_+_, _*_, _<_, _≤_};
 ghost use lib.ListN.{length};
@@ -6,6 +6,7 @@ ghost use Rattle.tools.specs.Lists.{byte};
 ghost use Rattle.rules.specs.Replies.{rowBytes};
 ghost use Rattle.book.specs.Layout.{spot, fields, setupOf, rowAt, mark0, mark1};
 ghost use Rattle.book.specs.Layout;
+ghost use Rattle.book.specs.Stamps.{filled};
 use rules::Setup;
 
 pub fn setup_of(book: &[u8]) -> Setup
@@ -143,4 +144,16 @@ pub fn post(book: &mut [u8], k: usize, x: u8, y: u8, row: [u8; 16])
     fill_row(&mut book[a..e], row);
     book[16 + 20 * k + 2] = x;
     book[16 + 20 * k + 3] = y;
+}
+
+// Bytes are written in front of a lent buffer, the rest of it as it was.
+pub fn lend(target: &mut [u8], bytes: &[u8])
+    requires { ⌜ length (now bytes) ≤ length (now target) ⌝ }
+    ensures { λ _. ⌜ now (target .exit) ≡ filled (now (target .entry)) (now (bytes .entry)) ⌝ }
+{
+    let mut i: usize = 0;
+    while i < bytes.len() {
+        target[i] = bytes[i];
+        i += 1;
+    }
 }

@@ -1,7 +1,7 @@
 // The calls on a book: each answers what the rules say, on any bytes, and leaves every byte that they say.
 ghost use mathlib.Core.Path.{_≡_};
 ghost use mathlib.Core.Bool.{true};
-ghost use Prim.Native.Nat.{_<_, _≤_};
+ghost use Prim.Native.Nat.{_<_};
 ghost use lib.ListN.{length};
 ghost use Rattle.tools.specs.Lists.{tab, Filled};
 ghost use Rattle.rules.specs.Setups.{permits};
@@ -13,7 +13,6 @@ ghost use Rattle.rules.specs.Replies.{rowBytes, stampedSays, postedSays, keptSa
 ghost use Rattle.book.specs.Layout;
 ghost use Rattle.book.specs.Layout.{headByte};
 ghost use Rattle.book.specs.Codec.{encode};
-ghost use Rattle.book.specs.Stamps.{filled};
 ghost use Rattle.book.specs.Answers.{answerTo, bookAfter, partOf, targetAfter};
 ghost use Rattle.portal.specs.Fresh.{freed};
 use rules::Compared;
@@ -307,17 +306,6 @@ pub fn show(book: &[u8], slot: usize) -> &[u8]
     asking::row_part(book, slot)
 }
 
-fn fill_first(target: &mut [u8], stamp: [u8; 20])
-    requires { ⌜ 20 ≤ length (now target) ⌝ }
-    ensures { λ _. ⌜ now (target .exit) ≡ filled (now (target .entry)) stamp ⌝ }
-{
-    let mut i: usize = 0;
-    while i < 20 {
-        target[i] = stamp[i];
-        i += 1;
-    }
-}
-
 // Write fills the first 20 bytes of the target with the stamp record of a slot, and no more.
 pub fn write(book: &[u8], slot: usize, target: &mut [u8]) -> u8
     ensures { λ r. ⌜ r ≡ answerTo (now (book .entry)) (on (Model.write slot (length (now (target .entry))))) .number ⌝ }
@@ -328,6 +316,7 @@ pub fn write(book: &[u8], slot: usize, target: &mut [u8]) -> u8
     if n != rules::DONE {
         return n;
     }
-    fill_first(target, asking::record_at(book, slot, room));
+    let stamp = asking::record_at(book, slot, room);
+    parts::lend(target, &stamp);
     rules::DONE
 }

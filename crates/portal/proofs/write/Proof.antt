@@ -1,6 +1,7 @@
 -- `portal::write` meets its contract.
 -- Assumes nothing.
 use mathlib.Core.Path.{_≡_, sym, ap, _∙_}
+use native.Mathlib.Omega.{arith}
 use lib.ListN.{length}
 use Rattle.rules.specs.Model.{write}
 use Rattle.book.specs.Stamps.{filled}
@@ -30,20 +31,24 @@ returns c =
 record-at-requires : tie.Need-record-at-requires
 record-at-requires c κs = search needs
 
-fill-first-requires : tie.Need-fill-first-requires
-fill-first-requires c κs =
-    let a = c .before .before .before .before .before .before .args in
-    let e = c .before .before in
-    write-room (a .book .now) (a .slot) _ (sym (e .before .write-number .ensures) ∙ e .if1 .left)
+slice-aggregate-lend : tie.Need-slice-aggregate-lend
+slice-aggregate-lend c = search needs
+
+lend-requires : tie.Need-lend-requires
+lend-requires c κs =
+    let a = c .before .before .before .before .before .before .before .args in
+    let e = c .before .before .before in
+    let n : length (c .before .before .record-at .result) ≡ 20 = search needs in
+    omega (arith, n, write-room (a .book .now) (a .slot) _ (sym (e .before .write-number .ensures) ∙ e .if1 .left))
 
 same-length : tie.Need-same-length
 same-length c = search needs
 
 returns-2 : tie.Need-returns-2
 returns-2 c =
-    let a = c .before .before .before .before .before .before .before .before .before .args in
-    let r = c .before .before .before in
-    (sym (r .before .before .if1 .left) ∙ answered (r .before .before .before), c .before .before .fill-first .ensures ∙ ap (filled (a .target .now)) (r .record-at .ensures))
+    let a = c .before .before .before .before .before .before .before .before .before .before .args in
+    let r = c .before .before .before .before .before in
+    (sym (r .before .if1 .left) ∙ answered (r .before .before), c .before .before .lend .ensures ∙ ap (filled (a .target .now)) (r .record-at .ensures))
 
 pub write-spec : {M : Type 1} → statement M
 write-spec =
@@ -52,6 +57,7 @@ write-spec =
     write-number-requires
     returns
     record-at-requires
-    fill-first-requires
+    slice-aggregate-lend
+    lend-requires
     same-length
     returns-2)

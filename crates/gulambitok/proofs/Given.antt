@@ -1,0 +1,141 @@
+-- What a call answers and leaves in the buffers that it is lent, whether they have room or not.
+-- Assumes nothing.
+use Prim.Native.Nat.{ℕ, _<_, _≤_}
+use mathlib.Core.Path.{_≡_, refl, sym, ap, _∙_, subst}
+use mathlib.Core.Bool.{Bool, true, false, _&&_, _||_, true≢false}
+use mathlib.Core.List.{List, [], _∷_}
+use borrow.Author.Tests.{ne-eqb, lt-ltb, le-ltb}
+use lib.Dec.{eqb, ltb}
+use lib.ListN.{length}
+use Rattle.tools.specs.Tests.{pick}
+use Rattle.tools.proofs.Lists.{length-tab}
+use Rattle.rules.specs.declared.Stamp.{Stamp}
+use Rattle.rules.specs.declared.Stamped.{Stamped}
+use Rattle.rules.specs.declared.Posted.{Posted}
+use Rattle.rules.specs.declared.Posted.the-variants as Posts
+use Rattle.rules.specs.Model.{Act, show, Value, nothing, Answer, refusal, accepted, done}
+use Rattle.rules.specs.Calls.{on}
+use Rattle.rules.specs.Replies.{rowBytes, rowOf, stampedSays, postedSays}
+use Rattle.book.specs.Stamps.{writeStamp, filled}
+use Rattle.book.specs.Answers.{answerTo, bookAfter, partIn, recordIn, partOf}
+use Rattle.book.specs.Numbers.{numberOf}
+use Rattle.book.proofs.Numbers.{answer-number, accepted-answer, refused-answer}
+use Rattle.parts.proofs.Lent.{filled-none}
+use Rattle.gulambitok.specs.Door.{tooShort, orNoRoom, cramped, bookBy, given, byteIn}
+
+-- the number with NoRoom as one more reason
+pub room-lacks : (q : Bool) (n : ℕ) → (q && (eqb n 0 || ltb 15 n)) ≡ true → 15 ≡ cramped q (refusal n) .number
+unfolding orNoRoom
+room-lacks true n e = rw (orNoRoom, e)
+room-lacks false n e = absurd (true≢false (sym e))
+
+pub room-enough : (q : Bool) (n : ℕ) → (q && (eqb n 0 || ltb 15 n)) ≡ false → n ≡ cramped q (refusal n) .number
+unfolding orNoRoom
+room-enough true n e = rw (orNoRoom, e)
+room-enough false n e = refl
+
+-- one byte, in a buffer that has none and in one that has some
+pub byte-short : (t w : List ℕ) → length t < 1 → (15 ≡ cramped (tooShort 1 t) (refusal 0) .number) × (t ≡ pick (tooShort 1 t) t (filled t w))
+unfolding orNoRoom
+byte-short t w l = rw (lt-ltb (length t) 1 l) (refl, refl)
+
+pub byte-given : (t w l : List ℕ) → 1 ≤ length t → l ≡ filled t w
+    → (0 ≡ cramped (tooShort 1 t) (refusal 0) .number) × (l ≡ pick (tooShort 1 t) t (filled t w))
+byte-given t w l m e = rw (le-ltb (length t) 1 m) (refl, e)
+
+-- the number r and the buffer l are due to a call that is answered a, with the buffer t lent to it
+abbrev pub Due : (Value → List ℕ) → List ℕ → Bool → Answer → ℕ → List ℕ → Type 0
+Due f t q a r l = (r ≡ cramped q a .number) × (l ≡ given f t q a)
+
+-- the same, and the bytes b that the act c leaves of the book s
+abbrev pub DueOn : (Value → List ℕ) → List ℕ → List ℕ → Act → Bool → ℕ → List ℕ → List ℕ → Type 0
+DueOn f t s c q r b l = (r ≡ cramped q (answerTo s (on c)) .number) × ((b ≡ bookBy q s c) × (l ≡ given f t q (answerTo s (on c))))
+
+pub due-as : (f : Value → List ℕ) (t : List ℕ) (q : Bool) (a b : Answer) (r : ℕ) (l : List ℕ) → a ≡ b → Due f t q a r l → Due f t q b r l
+due-as f t q a b r l e d = subst (λ (x : Answer). Due f t q x r l) e d
+
+module _ (f : Value → List ℕ) (none : f nothing ≡ []) (t : List ℕ) where
+  as-it-was : t ≡ filled t (f nothing)
+  as-it-was = sym (ap (filled t) none ∙ filled-none t)
+
+  -- a refusal
+  pub left-refused : (q : Bool) (n : ℕ) (a : Answer) → refusal n ≡ a → (r : ℕ) → r ≡ cramped q (refusal n) .number → Due f t q a r t
+  left-refused q n a e r h = subst (λ (b : Answer). Due f t q b r t) e (h, go q)
+    where
+      go : (q : Bool) → t ≡ given f t q (refusal n)
+      go true = as-it-was
+      go false = as-it-was
+
+  -- an acceptance, whose value has the bytes w
+  pub gave-accepted : (q : Bool) (v : Value) (a : Answer) → accepted v ≡ a → (w : List ℕ) → w ≡ f v → (r : ℕ) (l : List ℕ)
+      → (r ≡ cramped q (refusal 0) .number) × (l ≡ pick q t (filled t w)) → Due f t q a r l
+  gave-accepted q v a e w x r l d =
+      subst (λ (b : Answer). Due f t q b r l) e (d .0 ∙ number q, d .1 ∙ ap (λ (y : List ℕ). pick q t (filled t y)) x ∙ bytes q)
+    where
+      number : (q : Bool) → cramped q (refusal 0) .number ≡ cramped q (accepted v) .number
+      number true = refl
+      number false = refl
+
+      bytes : (q : Bool) → pick q t (filled t (f v)) ≡ given f t q (accepted v)
+      bytes true = as-it-was
+      bytes false = refl
+
+  module _ (s : List ℕ) (c : Act) (q : Bool) where
+    -- a buffer too short: the number only
+    pub left-short : q ≡ true → (n r : ℕ) → n ≡ numberOf s c → r ≡ cramped true (refusal n) .number → DueOn f t s c q r s t
+    left-short e n r m h =
+        subst (λ (q : Bool). DueOn f t s c q r s t) (sym e) (h ∙ ap orNoRoom (m ∙ sym (answer-number s c)), (refl, as-it-was))
+
+    -- room enough: what the answer a says
+    pub gave-room : q ≡ false → (a : Answer) → a ≡ answerTo s (on c) → (r : ℕ) (b l : List ℕ)
+        → r ≡ a .number → b ≡ bookAfter s (on c) → l ≡ filled t (f (a .value)) → DueOn f t s c q r b l
+    gave-room e a x r b l h k g =
+        subst (λ (q : Bool). DueOn f t s c q r b l) (sym e)
+        (h ∙ ap (λ (y : Answer). y .number) x, (k, g ∙ ap (λ (y : Answer). filled t (f (y .value))) x))
+
+-- the stamp of a refused event, and of an accepted one
+module _ (x : Stamped) (D : ℕ) (t : List ℕ) where
+  pub stamp-refused : (x .number ≡ 0 → ⊥) → (x .number ≡ stampedSays x .number) × (t ≡ filled t (recordIn D (stampedSays x .value)))
+  unfolding stampedSays
+  stamp-refused ne = rw (ne-eqb (x .number) 0 ne) (refl, as-it-was (recordIn D) refl t)
+
+  pub stamp-given : x .number ≡ 0 → (l : List ℕ) → l ≡ filled t (writeStamp D (record { owner = x .stamp .owner; row = rowOf (x .stamp .row) }))
+      → (0 ≡ stampedSays x .number) × (l ≡ filled t (recordIn D (stampedSays x .value)))
+  unfolding stampedSays
+  stamp-given e l h = rw e (refl, h)
+
+-- the stamp and the place of a refused send, and of an accepted one
+module _ (m : Posted) (x : Stamp) (D : ℕ) (t u : List ℕ) where
+  abbrev Sends : Posted → ℕ → List ℕ → List ℕ → Type 0
+  Sends m r l k =
+      (r ≡ postedSays m x .number)
+      × ((l ≡ filled t (recordIn D (postedSays m x .value))) × (k ≡ filled u (byteIn (postedSays m x .value))))
+
+  pub sent-refused : (n : ℕ) → m ≡ Posts.Refused n → Sends m n t u
+  sent-refused n e =
+      subst (λ (m : Posted). Sends m n t u) (sym e) (refl, (as-it-was (recordIn D) refl t, as-it-was byteIn refl u))
+
+  pub sent-given : (p : ℕ) → m ≡ Posts.At p → 1 ≤ length u → (r : ℕ) (l k : List ℕ)
+      → l ≡ filled t (writeStamp D (record { owner = x .owner; row = rowOf (x .row) }))
+      → (r ≡ cramped (tooShort 1 u) (refusal 0) .number) × (k ≡ pick (tooShort 1 u) u (filled u (p ∷ []))) → Sends m r l k
+  sent-given p e fit r l k h g =
+      let q = le-ltb (length u) 1 fit in
+      subst (λ (m : Posted). Sends m r l k) (sym e) (
+        g .0 ∙ ap (λ (z : Bool). cramped z (refusal 0) .number) q,
+        (h, g .1 ∙ ap (λ (z : Bool). pick z u (filled u (p ∷ []))) q),
+      )
+
+-- show: sixteen bytes where it is accepted
+module _ (s : List ℕ) (i : ℕ) where
+  pub part-size : numberOf s (show i) ≡ 0 → length (partOf s i) ≡ 16
+  unfolding done rowBytes
+  part-size e = sym (ap (λ (a : Answer). length (partIn (a .value))) (accepted-answer s (show i) e)) ∙ length-tab 0 16 _
+
+  module _ (t : List ℕ) (q : Bool) (room : q ≡ false) (n : ℕ) (h : n ≡ numberOf s (show i)) where
+    pub show-refused : (n ≡ 0 → ⊥) → Due partIn t q (answerTo s (on (show i))) n t
+    show-refused ne =
+        left-refused partIn refl t q n _ (refused-answer s (show i) n h ne) n (sym (ap (λ (q : Bool). cramped q (refusal n) .number) room))
+
+    pub show-given : n ≡ 0 → (l : List ℕ) → l ≡ filled t (partOf s i) → Due partIn t q (answerTo s (on (show i))) 0 l
+    show-given z l g =
+        subst (λ (q : Bool). Due partIn t q (answerTo s (on (show i))) 0 l) (sym room) (sym z ∙ h ∙ sym (answer-number s (show i)), g)

@@ -1,0 +1,25 @@
+-- `gulambitok::give_byte` meets its contract.
+-- Assumes nothing.
+use Rattle.gulambitok.proofs.Given.{byte-short, byte-given}
+use borrow.Author.Needs.{needs}
+use Rattle.gulambitok.proofs.give_byte.Statement.{statement}
+use Rattle.gulambitok.proofs.give_byte.Tie as tie
+
+returns : tie.Need-returns
+returns c = byte-short _ _ (c .if1 .taken)
+
+slice-aggregate-lend : tie.Need-slice-aggregate-lend
+slice-aggregate-lend c = search needs
+
+lend-requires : tie.Need-lend-requires
+lend-requires c κs = search needs
+
+same-length : tie.Need-same-length
+same-length c = search needs
+
+returns-2 : tie.Need-returns-2
+returns-2 c = byte-given _ _ _ (c .before .before .before .before .before .if1 .left) (c .before .before .lend .ensures)
+
+pub give-byte-spec : {M : Type 1} → statement M
+give-byte-spec =
+    tie.close (tie.spec returns slice-aggregate-lend lend-requires same-length returns-2)

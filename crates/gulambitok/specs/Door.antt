@@ -1,0 +1,85 @@
+-- The C interface: a call's value goes into a buffer that the caller lends, and a buffer too short is one more reason.
+-- Assumes nothing.
+--   setupBy D P L M A m n   the setup of the seven numbers
+--   tooShort n t     the lent buffer t has fewer than n bytes
+--   eitherShort t u  the buffer t is too short for a stamp record, or u for a place
+--   orNoRoom n       NoRoom or the number n, whichever is smaller; 0 is no reason
+--   cramped q a      the answer a to a call, where q holds with NoRoom as one more reason: a lent buffer is too short
+--   bookBy q s c     the bytes that the act c leaves of the book s: the same ones where q holds
+--   given f t q a    the lent buffer t after a call that is answered a: in front of it the bytes f of its value
+--   relationByte r   the byte of a relation
+--   byteIn v         the one byte of a value that is a place, a slot, a yes or no, or a relation; none with any other value
+--   stampIn s v      the stamp record of a value that is a stamp, under the setup of the book s; none with any other value
+--   whichByte w      the byte of one of two records, or of neither
+--   whichIn v        the byte of the newest of two records that a value relates; none with any other value
+use Prim.Native.Nat.{ℕ}
+use mathlib.Core.Bool.{Bool, _||_}
+use mathlib.Core.List.{List, [], _∷_}
+use lib.Dec.{ltb, eqb}
+use lib.ListN.{length}
+use Rattle.tools.specs.Tests.{pick}
+use Rattle.rules.specs.declared.Setup.{Setup}
+use Rattle.rules.specs.declared.Relation.{Relation}
+use Rattle.rules.specs.declared.Relation.the-variants.{Before, After, Same, Concurrent, Crossed}
+use Rattle.rules.specs.Numbers.{NoRoom, number}
+use Rattle.rules.specs.Model.{Act, Value, nothing, stamp, sent, slot, says, relates, shows, Answer, refusal}
+use Rattle.rules.specs.Calls.{on}
+use Rattle.rules.specs.Labels.{Which, First, Second, Neither, newer}
+use Rattle.book.specs.Codec.{decode}
+use Rattle.book.specs.Stamps.{filled}
+use Rattle.book.specs.Answers.{bookAfter, recordIn}
+
+abbrev pub setupBy : ℕ → ℕ → ℕ → ℕ → ℕ → ℕ → ℕ → Setup
+setupBy D P L M A m n =
+    record { desks = D; phases = P; clocks = L; seatLag = M; shelfLag = A; back = m; ahead = n }
+
+abbrev pub tooShort : ℕ → List ℕ → Bool
+tooShort n t = ltb (length t) n
+
+abbrev pub eitherShort : List ℕ → List ℕ → Bool
+eitherShort t u = tooShort 20 t || tooShort 1 u
+
+unfoldable pub orNoRoom : ℕ → ℕ
+orNoRoom n = pick (eqb n 0 || ltb (number NoRoom) n) (number NoRoom) n
+
+abbrev pub cramped : Bool → Answer → Answer
+cramped q a = pick q (refusal (orNoRoom (a .number))) a
+
+abbrev pub bookBy : Bool → List ℕ → Act → List ℕ
+bookBy q s c = pick q s (bookAfter s (on c))
+
+abbrev pub given : (Value → List ℕ) → List ℕ → Bool → Answer → List ℕ
+given f t q a = filled t (f (cramped q a .value))
+
+abbrev pub relationByte : Relation → ℕ
+relationByte Before = 1
+relationByte After = 2
+relationByte Same = 3
+relationByte Concurrent = 4
+relationByte Crossed = 5
+
+abbrev pub byteIn : Value → List ℕ
+byteIn nothing = []
+byteIn (stamp j r) = []
+byteIn (sent p j r) = p ∷ []
+byteIn (slot s) = s ∷ []
+byteIn (says t) = pick t 1 0 ∷ []
+byteIn (relates r) = relationByte r ∷ []
+byteIn (shows r) = []
+
+abbrev pub stampIn : List ℕ → Value → List ℕ
+stampIn s v = recordIn (decode s .setup .desks) v
+
+abbrev pub whichByte : Which → ℕ
+whichByte First = 1
+whichByte Second = 2
+whichByte Neither = 0
+
+abbrev pub whichIn : Value → List ℕ
+whichIn nothing = []
+whichIn (stamp j r) = []
+whichIn (sent p j r) = []
+whichIn (slot s) = []
+whichIn (says t) = []
+whichIn (relates r) = whichByte (newer r) ∷ []
+whichIn (shows r) = []

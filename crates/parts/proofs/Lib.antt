@@ -1,0 +1,2 @@
+-- The laws of bytes that are written.
+pub mod Lent
