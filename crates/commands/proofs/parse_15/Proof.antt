@@ -23,7 +23,7 @@ returns : tie.Need-returns
 unfolding verbs choose tab
 returns c =
     let t = c .before .before in
-    rw (sift _ 15 (t .before .before .before .before .pre), sym (t .before .is-shaped .ensures) ∙ t .if1 .taken) (cc)
+    rw (sift _ 15 (t .before .before .before .before .pre), sym (t .before .is-shaped .ensures) ∙ t .if1 .taken, c .before .number .ensures, c .number2 .ensures)
 
 slice-aggregate-is-shaped-2 : tie.Need-slice-aggregate-is-shaped-2
 slice-aggregate-is-shaped-2 c = search needs
@@ -42,7 +42,7 @@ unfolding verbs choose tab
 returns-2 c =
     let t = c .before .before in
     let f = t .before .before .before in
-    rw (sift _ 15 (t .before .before .before .before .before .before .before .pre), sym (f .before .is-shaped .ensures) ∙ f .if1 .left, sym (t .before .is-shaped2 .ensures) ∙ t .if2 .taken) (cc)
+    rw (sift _ 15 (t .before .before .before .before .before .before .before .pre), sym (f .before .is-shaped .ensures) ∙ f .if1 .left, sym (t .before .is-shaped2 .ensures) ∙ t .if2 .taken, c .before .number3 .ensures, c .number4 .ensures)
 
 returns-3 : tie.Need-returns-3
 unfolding verbs choose tab

@@ -20,7 +20,7 @@ returns : tie.Need-returns
 unfolding verbs choose tab
 returns c =
     let t = c .before in
-    rw (sift _ 9 (t .before .before .before .before .pre), sym (t .before .is-shaped .ensures) ∙ t .if1 .taken) (cc)
+    rw (sift _ 9 (t .before .before .before .before .pre), sym (t .before .is-shaped .ensures) ∙ t .if1 .taken, c .number .ensures)
 
 slice-aggregate-is-shaped-2 : tie.Need-slice-aggregate-is-shaped-2
 slice-aggregate-is-shaped-2 c = search needs
@@ -36,7 +36,7 @@ unfolding verbs choose tab
 returns-2 c =
     let t = c .before in
     let f = t .before .before .before in
-    rw (sift _ 9 (t .before .before .before .before .before .before .before .pre), sym (f .before .is-shaped .ensures) ∙ f .if1 .left, sym (t .before .is-shaped2 .ensures) ∙ t .if2 .taken) (cc)
+    rw (sift _ 9 (t .before .before .before .before .before .before .before .pre), sym (f .before .is-shaped .ensures) ∙ f .if1 .left, sym (t .before .is-shaped2 .ensures) ∙ t .if2 .taken, c .number2 .ensures)
 
 returns-3 : tie.Need-returns-3
 unfolding verbs choose tab
