@@ -1,0 +1,55 @@
+/* The baseline: the portal book of document 01 in plain C, with the library's own calls under plain_. */
+#ifndef BOOK_H
+#define BOOK_H
+
+#include <stddef.h>
+#include <stdint.h>
+
+enum answer {
+    DONE, BAD_BOOK, BAD_SETUP, NO_DESK, SAME_DESK, NO_PLACE, NOT_YOURS, NO_EVENT, PHASE_FULL,
+    MAIL_FULL, SHELF_FULL, SEAT_BEHIND, MAIL_BEHIND, SHELF_BEHIND, BAD_STAMP, NO_ROOM,
+    OUT_OF_REACH, BAD_LINE
+};
+
+enum relation { BEFORE = 1, AFTER, SAME, CONCURRENT, CROSSED };
+
+enum newest { NEITHER, FIRST, SECOND };
+
+enum {
+    BOOK_BYTES = 1456, RECORD_BYTES = 20, ROW_BYTES = 16, STAMP_BYTES = 20,
+    SEATS_AT = 16, MAIL_AT = 176, SHELF_AT = 816, ROW_AT = 4,
+    SEATS = 8, PLACES = 32, SLOTS = 32
+};
+
+uint8_t plain_start(uint8_t *book, size_t book_len, size_t desks, size_t phases, size_t clocks,
+                    size_t seat_lag, size_t shelf_lag, size_t back, size_t ahead);
+uint8_t plain_local(uint8_t *book, size_t book_len, size_t desk, uint8_t *stamp, size_t stamp_len);
+uint8_t plain_send(uint8_t *book, size_t book_len, size_t desk, size_t to, uint8_t *stamp,
+                   size_t stamp_len, uint8_t *place, size_t place_len);
+uint8_t plain_receive(uint8_t *book, size_t book_len, size_t desk, size_t place, uint8_t *stamp,
+                      size_t stamp_len);
+uint8_t plain_reset(uint8_t *book, size_t book_len, size_t desk, uint8_t *stamp, size_t stamp_len);
+uint8_t plain_keep(uint8_t *book, size_t book_len, size_t desk, uint8_t *slot, size_t slot_len);
+uint8_t plain_drop(uint8_t *book, size_t book_len, size_t slot);
+uint8_t plain_discard(uint8_t *book, size_t book_len, size_t place);
+uint8_t plain_before(const uint8_t *book, size_t book_len, size_t first, size_t second,
+                     uint8_t *answer, size_t answer_len);
+uint8_t plain_compare(const uint8_t *book, size_t book_len, size_t first, size_t second,
+                      uint8_t *answer, size_t answer_len);
+uint8_t plain_show(const uint8_t *book, size_t book_len, size_t slot, uint8_t *row, size_t row_len);
+uint8_t plain_write(const uint8_t *book, size_t book_len, size_t slot, uint8_t *target,
+                    size_t target_len);
+uint8_t plain_label_before(size_t desks, size_t phases, size_t clocks, size_t seat_lag,
+                           size_t shelf_lag, size_t back, size_t ahead, const uint8_t *first,
+                           size_t first_len, const uint8_t *second, size_t second_len,
+                           uint8_t *answer, size_t answer_len);
+uint8_t plain_label_compare(size_t desks, size_t phases, size_t clocks, size_t seat_lag,
+                            size_t shelf_lag, size_t back, size_t ahead, const uint8_t *first,
+                            size_t first_len, const uint8_t *second, size_t second_len,
+                            uint8_t *answer, size_t answer_len);
+uint8_t plain_label_newest(size_t desks, size_t phases, size_t clocks, size_t seat_lag,
+                           size_t shelf_lag, size_t back, size_t ahead, const uint8_t *first,
+                           size_t first_len, const uint8_t *second, size_t second_len,
+                           uint8_t *answer, size_t answer_len);
+
+#endif

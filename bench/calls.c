@@ -1,0 +1,243 @@
+/* One named call, made many times on an empty or a full book, so that its cost can be counted.
+ *
+ * calls NAME empty|full TIMES prints the last answer, a sum of every byte lent, and the nanoseconds taken.
+ * Build with PREFIX plain_ and HEADER "book.h", or PREFIX gulambitok_ and HEADER "gulambitok.h".
+ */
+#include HEADER
+#include "vectors.h"
+
+#include <stdio.h>
+#include <stdlib.h>
+#include <string.h>
+#include <time.h>
+
+#define JOIN_NAMES(prefix, name) prefix##name
+#define JOIN(prefix, name) JOIN_NAMES(prefix, name)
+#define CALL(name) JOIN(PREFIX, name)
+
+#define SETUP 8, 255, 255, 100, 200, 100, 100
+
+enum { BOOK = 1456, STAMP = 20, ROW = 16, DESKS = 8, PLACES_AND_SLOTS = 32, RESET_EVERY = 5 };
+
+static uint8_t book[BOOK], prepared[BOOK], stamp[STAMP], row[ROW], value;
+static uint8_t first_label[STAMP], second_label[STAMP];
+static const uint32_t first_vector[VECTOR_DESKS] = {3, 1, 4, 1, 5, 9, 2, 6};
+static const uint32_t second_vector[VECTOR_DESKS] = {3, 1, 4, 2, 5, 9, 2, 7};
+
+/* A book that is not the one meant would be counted in its place, so a refusal ends the run. */
+static void must(uint8_t answer)
+{
+    if (answer == 0)
+        return;
+    fprintf(stderr, "calls: a preparing call was refused with %d\n", answer);
+    exit(1);
+}
+
+static void fresh(void)
+{
+    must(CALL(start)(book, BOOK, SETUP));
+}
+
+static void with_event(void)
+{
+    fresh();
+    must(CALL(local)(book, BOOK, 0, stamp, STAMP));
+}
+
+static void with_mail(void)
+{
+    fresh();
+    must(CALL(send)(book, BOOK, 0, 1, stamp, STAMP, &value, 1));
+}
+
+/* The mail has gone by the time the second is kept, so the book holds two stamps and no more. */
+static void with_stamps(void)
+{
+    with_mail();
+    must(CALL(keep)(book, BOOK, 0, &value, 1));
+    must(CALL(receive)(book, BOOK, 1, 0, stamp, STAMP));
+    must(CALL(keep)(book, BOOK, 1, &value, 1));
+}
+
+/* Desks take turns; each is mailed by its neighbour and resets now and then, so rows hold many phases. */
+static void full(void)
+{
+    fresh();
+    for (size_t turn = 0; turn < PLACES_AND_SLOTS; turn++) {
+        size_t desk = turn % DESKS, next = (desk + 1) % DESKS;
+        if (turn % RESET_EVERY == 0)
+            must(CALL(reset)(book, BOOK, desk, stamp, STAMP));
+        must(CALL(send)(book, BOOK, desk, next, stamp, STAMP, &value, 1));
+        must(CALL(receive)(book, BOOK, next, value, stamp, STAMP));
+        must(CALL(keep)(book, BOOK, next, &value, 1));
+    }
+    for (size_t turn = 0; turn < PLACES_AND_SLOTS; turn++) {
+        size_t desk = turn % DESKS, next = (desk + 1) % DESKS;
+        must(CALL(send)(book, BOOK, desk, next, stamp, STAMP, &value, 1));
+    }
+}
+
+static uint8_t no_call(void)
+{
+    return 0;
+}
+
+/* Refused for its slot straight after the book was found sound: the check, and little else. */
+static uint8_t sound(void)
+{
+    return CALL(drop)(book, BOOK, PLACES_AND_SLOTS);
+}
+
+static uint8_t start(void)
+{
+    return CALL(start)(book, BOOK, SETUP);
+}
+
+static uint8_t local(void)
+{
+    return CALL(local)(book, BOOK, 0, stamp, STAMP);
+}
+
+static uint8_t send(void)
+{
+    return CALL(send)(book, BOOK, 0, 1, stamp, STAMP, &value, 1);
+}
+
+static uint8_t receive(void)
+{
+    return CALL(receive)(book, BOOK, 1, 0, stamp, STAMP);
+}
+
+static uint8_t reset(void)
+{
+    return CALL(reset)(book, BOOK, 0, stamp, STAMP);
+}
+
+static uint8_t keep(void)
+{
+    return CALL(keep)(book, BOOK, 0, &value, 1);
+}
+
+static uint8_t drop(void)
+{
+    return CALL(drop)(book, BOOK, 0);
+}
+
+static uint8_t discard(void)
+{
+    return CALL(discard)(book, BOOK, 0);
+}
+
+static uint8_t before(void)
+{
+    return CALL(before)(book, BOOK, 0, 1, &value, 1);
+}
+
+static uint8_t compare(void)
+{
+    return CALL(compare)(book, BOOK, 0, 1, &value, 1);
+}
+
+static uint8_t show(void)
+{
+    return CALL(show)(book, BOOK, 0, row, ROW);
+}
+
+static uint8_t write_slot(void)
+{
+    return CALL(write)(book, BOOK, 0, stamp, STAMP);
+}
+
+static uint8_t label_before(void)
+{
+    return CALL(label_before)(SETUP, first_label, STAMP, second_label, STAMP, &value, 1);
+}
+
+static uint8_t label_compare(void)
+{
+    return CALL(label_compare)(SETUP, first_label, STAMP, second_label, STAMP, &value, 1);
+}
+
+static uint8_t label_newest(void)
+{
+    return CALL(label_newest)(SETUP, first_label, STAMP, second_label, STAMP, &value, 1);
+}
+
+static uint8_t vectors(void)
+{
+    value = vectors_compare(first_vector, second_vector);
+    return 0;
+}
+
+/* Each call, and the least book on which it is accepted. */
+static const struct entry { const char *name; void (*least)(void); uint8_t (*make)(void); } entries[] = {
+    {"none", fresh, no_call},          {"sound", fresh, sound},
+    {"start", fresh, start},           {"local", fresh, local},
+    {"send", fresh, send},             {"receive", with_mail, receive},
+    {"reset", fresh, reset},           {"keep", with_event, keep},
+    {"drop", with_stamps, drop},       {"discard", with_mail, discard},
+    {"before", with_stamps, before},   {"compare", with_stamps, compare},
+    {"show", with_stamps, show},       {"write", with_stamps, write_slot},
+    {"label_before", with_stamps, label_before},
+    {"label_compare", with_stamps, label_compare},
+    {"label_newest", with_stamps, label_newest},
+    {"vectors", fresh, vectors}
+};
+
+static const struct entry *entry_named(const char *name)
+{
+    for (size_t i = 0; i < sizeof entries / sizeof entries[0]; i++)
+        if (strcmp(name, entries[i].name) == 0)
+            return &entries[i];
+    return NULL;
+}
+
+/* The labels are the first two slots as records, where the book has them. */
+static void prepare(void (*make_book)(void))
+{
+    make_book();
+    if (CALL(write)(book, BOOK, 0, first_label, STAMP) == 0)
+        must(CALL(write)(book, BOOK, 1, second_label, STAMP));
+    memcpy(prepared, book, BOOK);
+}
+
+static unsigned long add_bytes(unsigned long sum, const uint8_t *bytes, size_t count)
+{
+    for (size_t i = 0; i < count; i++)
+        sum = (sum ^ bytes[i]) * 1099511628211ul;
+    return sum;
+}
+
+static unsigned long sum_of_bytes(void)
+{
+    unsigned long sum = add_bytes(14695981039346656037ul, book, BOOK);
+    sum = add_bytes(sum, stamp, STAMP);
+    sum = add_bytes(sum, row, ROW);
+    return add_bytes(sum, &value, 1);
+}
+
+static long nanoseconds(void)
+{
+    struct timespec now;
+    clock_gettime(CLOCK_MONOTONIC, &now);
+    return now.tv_sec * 1000000000l + now.tv_nsec;
+}
+
+int main(int words, char **word)
+{
+    const struct entry *entry = words == 4 ? entry_named(word[1]) : NULL;
+    if (!entry) {
+        fprintf(stderr, "usage: calls NAME empty|full TIMES\n");
+        return 2;
+    }
+    prepare(strcmp(word[2], "full") == 0 ? full : entry->least);
+    uint8_t answer = 0;
+    long times = atol(word[3]), began = nanoseconds();
+    for (long i = 0; i < times; i++) {
+        memcpy(book, prepared, BOOK);
+        answer = entry->make();
+    }
+    long took = nanoseconds() - began;
+    printf("%d %016lx %ld\n", answer, sum_of_bytes(), took);
+    return 0;
+}

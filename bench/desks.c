@@ -1,0 +1,257 @@
+/* The listing of document 01 in plain C: lines on standard input, answers on standard output. */
+#include "book.h"
+
+#include <stdint.h>
+#include <string.h>
+#include <unistd.h>
+
+enum { LINE_MOST = 64, BLOCK_BYTES = 4096, NUMBERS_MOST = 7 };
+
+enum verb { START, LOCAL, SEND, RECEIVE, RESET, KEEP, DROP, DISCARD, ASK_BEFORE, COMPARE, VERBS };
+
+static const struct { const char *name; size_t length, numbers; } verbs[VERBS] = {
+    [START] = {"start", 5, 7},     [LOCAL] = {"local", 5, 1},     [SEND] = {"send", 4, 2},
+    [RECEIVE] = {"receive", 7, 2}, [RESET] = {"reset", 5, 1},     [KEEP] = {"keep", 4, 1},
+    [DROP] = {"drop", 4, 1},       [DISCARD] = {"discard", 7, 1}, [ASK_BEFORE] = {"before", 6, 2},
+    [COMPARE] = {"compare", 7, 2}
+};
+
+static const char *const relation_words[] = {
+    [BEFORE] = "before", [AFTER] = "after", [SAME] = "same",
+    [CONCURRENT] = "concurrent", [CROSSED] = "crossed"
+};
+
+struct call {
+    enum verb verb;
+    size_t number[NUMBERS_MOST];
+};
+
+static uint8_t book[BOOK_BYTES];
+
+/* One byte over the limit is held, to tell a line of 64 bytes from a longer one. */
+static char line[LINE_MOST + 1];
+static size_t line_bytes;
+
+/* A line prints fewer than eight bytes for each of its own, and its head may be of an earlier block. */
+static char out[8 * (BLOCK_BYTES + LINE_MOST)];
+static size_t out_bytes;
+
+static void put_bytes(const char *bytes, size_t count)
+{
+    memcpy(out + out_bytes, bytes, count);
+    out_bytes += count;
+}
+
+static void put_byte(char byte)
+{
+    out[out_bytes++] = byte;
+}
+
+static void put_number(unsigned number)
+{
+    const char digits[3] = {(char)('0' + number / 100), (char)('0' + number / 10 % 10),
+                            (char)('0' + number % 10)};
+    put_bytes(digits, sizeof digits);
+}
+
+static void put_field(unsigned number)
+{
+    put_byte(' ');
+    put_number(number);
+}
+
+static void put_word(const char *word)
+{
+    put_byte(' ');
+    put_bytes(word, strlen(word));
+}
+
+static void put_stamp_fields(const uint8_t *stamp)
+{
+    put_field(stamp[2]);
+    for (size_t desk = 0; desk < stamp[3]; desk++) {
+        put_field(stamp[ROW_AT + 2 * desk]);
+        put_byte('.');
+        put_number(stamp[ROW_AT + 2 * desk + 1]);
+    }
+}
+
+/* Exactly three digits after one space. */
+static int read_number(const char *text, size_t *number)
+{
+    if (text[0] != ' ')
+        return 0;
+    *number = 0;
+    for (size_t i = 1; i <= 3; i++) {
+        if (text[i] < '0' || text[i] > '9')
+            return 0;
+        *number = 10 * *number + (size_t)(text[i] - '0');
+    }
+    return 1;
+}
+
+static int read_verb(const char *text, size_t bytes, enum verb *verb)
+{
+    for (enum verb v = START; v < VERBS; v++)
+        if (bytes == verbs[v].length + 4 * verbs[v].numbers
+            && memcmp(text, verbs[v].name, verbs[v].length) == 0) {
+            *verb = v;
+            return 1;
+        }
+    return 0;
+}
+
+static int read_call(const char *text, size_t bytes, struct call *call)
+{
+    if (!read_verb(text, bytes, &call->verb))
+        return 0;
+    const char *next = text + verbs[call->verb].length;
+    for (size_t i = 0; i < verbs[call->verb].numbers; i++, next += 4)
+        if (!read_number(next, &call->number[i]))
+            return 0;
+    return 1;
+}
+
+/* Verbs with nothing to print beside their answer. */
+static uint8_t make_quiet_call(const struct call *c)
+{
+    const size_t *n = c->number;
+    switch (c->verb) {
+    case START:
+        return plain_start(book, sizeof book, n[0], n[1], n[2], n[3], n[4], n[5], n[6]);
+    case DROP:
+        return plain_drop(book, sizeof book, n[0]);
+    default:
+        return plain_discard(book, sizeof book, n[0]);
+    }
+}
+
+static uint8_t make_event(const struct call *c, uint8_t *stamp, uint8_t *place)
+{
+    const size_t *n = c->number;
+    switch (c->verb) {
+    case LOCAL:
+        return plain_local(book, sizeof book, n[0], stamp, STAMP_BYTES);
+    case SEND:
+        return plain_send(book, sizeof book, n[0], n[1], stamp, STAMP_BYTES, place, 1);
+    case RECEIVE:
+        return plain_receive(book, sizeof book, n[0], n[1], stamp, STAMP_BYTES);
+    default:
+        return plain_reset(book, sizeof book, n[0], stamp, STAMP_BYTES);
+    }
+}
+
+static void answer_event(const struct call *c)
+{
+    uint8_t stamp[STAMP_BYTES], place, answer = make_event(c, stamp, &place);
+    put_number(answer);
+    if (answer != DONE)
+        return;
+    if (c->verb == SEND)
+        put_field(place);
+    put_stamp_fields(stamp);
+}
+
+static void answer_keep(const struct call *c)
+{
+    uint8_t slot, answer = plain_keep(book, sizeof book, c->number[0], &slot, 1);
+    put_number(answer);
+    if (answer == DONE)
+        put_field(slot);
+}
+
+static void answer_before(const struct call *c)
+{
+    const size_t *n = c->number;
+    uint8_t yes, answer = plain_before(book, sizeof book, n[0], n[1], &yes, 1);
+    put_number(answer);
+    if (answer == DONE)
+        put_word(yes ? "yes" : "no");
+}
+
+static void answer_compare(const struct call *c)
+{
+    const size_t *n = c->number;
+    uint8_t found, answer = plain_compare(book, sizeof book, n[0], n[1], &found, 1);
+    put_number(answer);
+    if (answer == DONE)
+        put_word(relation_words[found]);
+}
+
+static void answer_call(const struct call *c)
+{
+    switch (c->verb) {
+    case LOCAL: case SEND: case RECEIVE: case RESET:
+        answer_event(c);
+        break;
+    case KEEP:
+        answer_keep(c);
+        break;
+    case ASK_BEFORE:
+        answer_before(c);
+        break;
+    case COMPARE:
+        answer_compare(c);
+        break;
+    default:
+        put_number(make_quiet_call(c));
+    }
+}
+
+static void answer_line(void)
+{
+    struct call call;
+    if (read_call(line, line_bytes, &call))
+        answer_call(&call);
+    else
+        put_number(BAD_LINE);
+    put_byte('\n');
+    line_bytes = 0;
+}
+
+static void hold(const char *bytes, size_t count)
+{
+    size_t room = sizeof line - line_bytes;
+    size_t taken = count < room ? count : room;
+    memcpy(line + line_bytes, bytes, taken);
+    line_bytes += taken;
+}
+
+static void take_block(const char *block, size_t bytes)
+{
+    const char *end = block + bytes;
+    while (block < end) {
+        const char *newline = memchr(block, '\n', (size_t)(end - block));
+        hold(block, (size_t)((newline ? newline : end) - block));
+        if (!newline)
+            return;
+        answer_line();
+        block = newline + 1;
+    }
+}
+
+static int write_out(void)
+{
+    for (size_t written = 0; written < out_bytes;) {
+        ssize_t count = write(STDOUT_FILENO, out + written, out_bytes - written);
+        if (count < 0)
+            return 0;
+        written += (size_t)count;
+    }
+    out_bytes = 0;
+    return 1;
+}
+
+int main(void)
+{
+    static char block[BLOCK_BYTES];
+    ssize_t count;
+    while ((count = read(STDIN_FILENO, block, sizeof block)) > 0) {
+        take_block(block, (size_t)count);
+        if (!write_out())
+            return 1;
+    }
+    if (line_bytes > 0)
+        answer_line();
+    return count == 0 && write_out() ? 0 : 1;
+}

@@ -1,0 +1,198 @@
+#!/usr/bin/env python3
+"""A listing of 60,000 mixed lines, the same at each run.
+
+    python3 bench/listing.py > listing
+
+The book is followed with phases that never come round, only so far as is needed
+to choose calls that mostly go through. Tides of filling and emptying bring full
+mail and a full shelf; about one line in forty is a BadLine.
+"""
+
+import random
+
+LINES = 60_000
+LINES_A_START = 1_000
+LINES_A_TIDE = 200
+PLACES = SLOTS = 32
+
+SETUPS = [
+    (8, 255, 255, 100, 200, 100, 100),
+    (2, 3, 40, 1, 2, 1, 1),
+    (8, 64, 32, 20, 40, 30, 30),
+    (3, 5, 25, 2, 4, 2, 2),
+    (5, 16, 10, 5, 12, 8, 8),
+    (4, 9, 200, 3, 6, 4, 5),
+    (8, 255, 20, 127, 254, 127, 127),
+    (6, 31, 8, 10, 20, 16, 16),
+]
+REFUSED_SETUP = (8, 256, 255, 100, 200, 100, 100)
+
+WEIGHTS = {
+    "filling": {"local": 12, "send": 34, "receive": 14, "reset": 6, "keep": 18,
+                "drop": 1, "discard": 1, "before": 7, "compare": 7},
+    "emptying": {"local": 12, "send": 12, "receive": 24, "reset": 10, "keep": 10,
+                 "drop": 13, "discard": 5, "before": 7, "compare": 7},
+}
+
+BAD_LINES = [
+    "", "local", "local 7", "local 0007", "local  000", "local 000 ", " local 000",
+    "Local 000", "send 000", "send 000 001 002", "receive 000,001", "show 000",
+    "write 000", "keep -01", "start 008 255 255", "drop 00x", "drop\t000",
+    "compare 000 001" + 60 * " ", "x" * 64, "x" * 65, "before 000 001\r",
+]
+
+
+class Book:
+    """What the next lines are chosen by: who has started, what waits and what is kept."""
+
+    def __init__(self, setup):
+        self.desks, _, self.clocks, self.seat_lag, self.shelf_lag = setup[:5]
+        self.rows = [[(0, 0)] * self.desks for _ in range(self.desks)]
+        self.started = set()
+        self.mail = {}
+        self.shelf = {}
+
+    def phase_full(self, desk):
+        return desk < self.desks and self.rows[desk][desk][1] == self.clocks - 1
+
+    def local(self, desk):
+        """Says whether the event took place: send and receive go on from there."""
+        if desk >= self.desks or self.phase_full(desk):
+            return False
+        phase, clock = self.rows[desk][desk]
+        self.rows[desk][desk] = (phase, clock + 1)
+        self.started.add(desk)
+        return True
+
+    def send(self, desk, to):
+        if to < self.desks and desk != to and len(self.mail) < PLACES and self.local(desk):
+            self.mail[lowest_free(self.mail)] = (to, list(self.rows[desk]))
+
+    def receive(self, desk, place):
+        if place in self.mail and self.mail[place][0] == desk and self.local(desk):
+            _, row = self.mail.pop(place)
+            own = self.rows[desk][desk]
+            self.rows[desk] = [max(pairs) for pairs in zip(self.rows[desk], row)]
+            self.rows[desk][desk] = own
+
+    def behind(self, desk, row, most):
+        return self.rows[desk][desk][0] - row[desk][0] == most
+
+    def reset(self, desk):
+        if desk >= self.desks or any(self.behind(desk, row, self.seat_lag) for row in self.rows):
+            return
+        if any(self.behind(desk, row, 2 * self.seat_lag) for _, row in self.mail.values()):
+            return
+        if any(self.behind(desk, row, self.shelf_lag) for row in self.shelf.values()):
+            return
+        self.rows[desk][desk] = (self.rows[desk][desk][0] + 1, 0)
+        self.started.add(desk)
+
+    def keep(self, desk):
+        if desk in self.started and len(self.shelf) < SLOTS:
+            self.shelf[lowest_free(self.shelf)] = list(self.rows[desk])
+
+    def drop(self, slot):
+        self.shelf.pop(slot, None)
+
+    def discard(self, place):
+        self.mail.pop(place, None)
+
+    def before(self, first, second):
+        """A question changes nothing."""
+
+    compare = before
+
+
+def lowest_free(used):
+    return min(set(range(len(used) + 1)) - used.keys())
+
+
+def any_used(choose, used):
+    """Mostly a used number, now and then a free one or one above all."""
+    if used and choose.random() < 0.97:
+        return choose.choice(sorted(used))
+    return choose.choice([0, 31, 32, 255, 999])
+
+
+def any_desk(choose, book):
+    if choose.random() < 0.99:
+        return choose.randrange(book.desks)
+    return choose.choice([book.desks, 255, 999])
+
+
+def any_receipt(choose, book):
+    place = any_used(choose, book.mail)
+    if place in book.mail and choose.random() < 0.97:
+        return [book.mail[place][0], place]
+    return [any_desk(choose, book), place]
+
+
+def any_sending(choose, book):
+    desk = any_desk(choose, book)
+    if choose.random() < 0.97:
+        return [desk, (desk + choose.randrange(1, book.desks)) % book.desks]
+    return [desk, any_desk(choose, book)]
+
+
+def any_numbers(choose, book, verb):
+    if verb == "receive":
+        return any_receipt(choose, book)
+    if verb == "send":
+        return any_sending(choose, book)
+    if verb == "discard":
+        return [any_used(choose, book.mail)]
+    if verb == "drop":
+        return [any_used(choose, book.shelf)]
+    if verb in ("before", "compare"):
+        return [any_used(choose, book.shelf), any_used(choose, book.shelf)]
+    return [any_desk(choose, book)]
+
+
+def steered(choose, book, verb, numbers):
+    """Where a call is bound to be refused, mostly the one that makes way for it."""
+    if choose.random() < 0.15:
+        return verb, numbers
+    if verb in ("receive", "discard") and not book.mail:
+        verb, numbers = "send", any_sending(choose, book)
+    if verb in ("drop", "before", "compare") and not book.shelf:
+        verb, numbers = "keep", [any_desk(choose, book)]
+    if verb in ("local", "send", "receive") and book.phase_full(numbers[0]):
+        return "reset", numbers[:1]
+    if verb == "keep" and len(book.shelf) == SLOTS:
+        return "drop", [any_used(choose, book.shelf)]
+    return verb, numbers
+
+
+def in_text(verb, numbers):
+    return " ".join([verb, *(f"{number:03}" for number in numbers)])
+
+
+def one_line(choose, book, tide):
+    if choose.random() < 0.025:
+        return choose.choice(BAD_LINES)
+    weights = WEIGHTS[tide]
+    verb = choose.choices(list(weights), list(weights.values()))[0]
+    verb, numbers = steered(choose, book, verb, any_numbers(choose, book, verb))
+    getattr(book, verb)(*numbers)
+    return in_text(verb, numbers)
+
+
+def listing():
+    """Each stretch opens with a start and closes with one that is refused."""
+    choose = random.Random(1456)
+    for number in range(LINES):
+        if number % LINES_A_START == 0:
+            setup = SETUPS[number // LINES_A_START % len(SETUPS)]
+            book = Book(setup)
+            yield in_text("start", setup)
+        elif number % LINES_A_START == LINES_A_START - 1:
+            yield in_text("start", REFUSED_SETUP)
+        else:
+            tide = "emptying" if number // LINES_A_TIDE % 2 else "filling"
+            yield one_line(choose, book, tide)
+
+
+if __name__ == "__main__":
+    for line in listing():
+        print(line)

@@ -1,0 +1,59 @@
+/* The session of document 01's listing, made from C and printed as the listing prints it. */
+#include "gulambitok.h"
+
+#include <stdio.h>
+
+static uint8_t book[GULAMBITOK_BOOK_BYTES];
+static uint8_t stamp[GULAMBITOK_STAMP_BYTES];
+
+static const char *const relations[] = {
+    [GULAMBITOK_BEFORE] = "before", [GULAMBITOK_AFTER] = "after", [GULAMBITOK_SAME] = "same",
+    [GULAMBITOK_CONCURRENT] = "concurrent", [GULAMBITOK_CROSSED] = "crossed"
+};
+
+/* The number comes first: on a refusal nothing else was written. */
+static int done(uint8_t answer)
+{
+    printf("%03d", answer);
+    return answer == GULAMBITOK_DONE;
+}
+
+static void print_event(uint8_t answer, const uint8_t *place)
+{
+    if (done(answer)) {
+        if (place)
+            printf(" %03d", *place);
+        printf(" %03d", stamp[GULAMBITOK_STAMP_OWNER_AT]);
+        for (int desk = 0; desk < stamp[GULAMBITOK_STAMP_DESKS_AT]; desk++) {
+            const uint8_t *pair = stamp + GULAMBITOK_STAMP_ROW_AT + 2 * desk;
+            printf(" %03d.%03d", pair[0], pair[1]);
+        }
+    }
+    puts("");
+}
+
+static void print_slot(uint8_t answer, const uint8_t *slot)
+{
+    if (done(answer))
+        printf(" %03d", *slot);
+    puts("");
+}
+
+int main(void)
+{
+    uint8_t place = 0, first = 0, second = 0, relation = 0;
+
+    done(gulambitok_start(book, sizeof book, 2, 3, 3, 1, 1, 1, 1));
+    puts("");
+    print_event(gulambitok_local(book, sizeof book, 0, stamp, sizeof stamp), NULL);
+    print_slot(gulambitok_keep(book, sizeof book, 0, &first, 1), &first);
+    print_event(gulambitok_send(book, sizeof book, 0, 1, stamp, sizeof stamp, &place, 1), &place);
+    print_event(gulambitok_receive(book, sizeof book, 1, place, stamp, sizeof stamp), NULL);
+    print_slot(gulambitok_keep(book, sizeof book, 1, &second, 1), &second);
+    if (done(gulambitok_compare(book, sizeof book, first, second, &relation, 1)))
+        printf(" %s", relations[relation]);
+    puts("");
+    print_event(gulambitok_reset(book, sizeof book, 0, stamp, sizeof stamp), NULL);
+    print_event(gulambitok_reset(book, sizeof book, 0, stamp, sizeof stamp), NULL);
+    return 0;
+}

@@ -1,0 +1,190 @@
+/* Gulambitok: the portal book of two to eight desks, and the stamps it gives.
+ *
+ * Each call answers a number: 0 is done, any other is the refusal of that number below. When
+ * several refusals apply the smallest is given. A refused call changes no byte of the book or of
+ * any other buffer it was lent; a call that is done fills the bytes it says and no more.
+ *
+ * The caller need check nothing beforehand: a book may hold any bytes, and numbers of a setup and
+ * of desks, places and slots may be any. Two things no call can check, and the caller owes them:
+ * a length is the number of bytes truly lent (0 may go with a null pointer), and a buffer that a
+ * call writes overlaps no other buffer of that call and is used by nobody else until it returns.
+ *
+ * The buffers stay the caller's: no call keeps a pointer, allocates or remembers anything.
+ */
+#ifndef GULAMBITOK_H
+#define GULAMBITOK_H
+
+#include <stddef.h>
+#include <stdint.h>
+
+#ifdef __cplusplus
+extern "C" {
+#endif
+
+/* The answer numbers. */
+enum {
+    GULAMBITOK_DONE = 0,
+    GULAMBITOK_BAD_BOOK = 1,      /* book not sound; for start, only the length counts */
+    GULAMBITOK_BAD_SETUP = 2,     /* a setup number or inequality fails */
+    GULAMBITOK_NO_DESK = 3,       /* a desk number is D or more */
+    GULAMBITOK_SAME_DESK = 4,     /* send to oneself */
+    GULAMBITOK_NO_PLACE = 5,      /* place or slot above 31, or free */
+    GULAMBITOK_NOT_YOURS = 6,     /* mail addressed to another desk */
+    GULAMBITOK_NO_EVENT = 7,      /* keep at a seat not started */
+    GULAMBITOK_PHASE_FULL = 8,    /* local, send or receive at own clock L-1 */
+    GULAMBITOK_MAIL_FULL = 9,     /* send with no free place */
+    GULAMBITOK_SHELF_FULL = 10,   /* keep with no free slot */
+    GULAMBITOK_SEAT_BEHIND = 11,  /* reset; the entry for the desk lags M in another seat */
+    GULAMBITOK_MAIL_BEHIND = 12,  /* reset; the entry for the desk lags 2M in a waiting row */
+    GULAMBITOK_SHELF_BEHIND = 13, /* reset; the entry for the desk lags A in a kept row */
+    GULAMBITOK_BAD_STAMP = 14,    /* a stamp record does not read */
+    GULAMBITOK_NO_ROOM = 15,      /* a buffer is too short for what the call would write there */
+    GULAMBITOK_OUT_OF_REACH = 16, /* comparison beyond reach */
+    GULAMBITOK_BAD_LINE = 17      /* the program desks only */
+};
+
+/* What compare writes. */
+enum {
+    GULAMBITOK_BEFORE = 1,
+    GULAMBITOK_AFTER = 2,
+    GULAMBITOK_SAME = 3,
+    GULAMBITOK_CONCURRENT = 4,
+    GULAMBITOK_CROSSED = 5
+};
+
+/* What newest writes. */
+enum {
+    GULAMBITOK_NEITHER = 0,
+    GULAMBITOK_FIRST = 1,
+    GULAMBITOK_SECOND = 2
+};
+
+/* Sizes in bytes, and how many of each there are. */
+enum {
+    GULAMBITOK_BOOK_BYTES = 1456,
+    GULAMBITOK_HEADER_BYTES = 16,
+    GULAMBITOK_RECORD_BYTES = 20, /* a seat, a mail place or a shelf slot */
+    GULAMBITOK_ROW_BYTES = 16,    /* for each of eight desks its phase, then its clock */
+    GULAMBITOK_STAMP_BYTES = 20,
+    GULAMBITOK_SEATS = 8,
+    GULAMBITOK_PLACES = 32,
+    GULAMBITOK_SLOTS = 32
+};
+
+/* Offsets in the book. */
+enum {
+    GULAMBITOK_HEADER_AT = 0,
+    GULAMBITOK_SEATS_AT = 16,
+    GULAMBITOK_MAIL_AT = 176,
+    GULAMBITOK_SHELF_AT = 816
+};
+
+/* Offsets in the header, after its mark 42 4B; seven zeros follow the last. */
+enum {
+    GULAMBITOK_HEADER_DESKS_AT = 2,     /* D */
+    GULAMBITOK_HEADER_PHASES_AT = 3,    /* P */
+    GULAMBITOK_HEADER_CLOCKS_AT = 4,    /* L */
+    GULAMBITOK_HEADER_SEAT_LAG_AT = 5,  /* M */
+    GULAMBITOK_HEADER_SHELF_LAG_AT = 6, /* A */
+    GULAMBITOK_HEADER_BACK_AT = 7,      /* m */
+    GULAMBITOK_HEADER_AHEAD_AT = 8      /* n */
+};
+
+/* Offsets in a record of the book, after its mark: 53 45 for a seat, 4D 41 for mail, 53 48 for a
+ * slot. */
+enum {
+    GULAMBITOK_SEAT_STARTED_AT = 2,   /* 0 or 1; a zero follows */
+    GULAMBITOK_MAIL_SENDER_AT = 2,    /* sender+1, 0 when the place is free */
+    GULAMBITOK_MAIL_ADDRESSEE_AT = 3, /* addressee+1 */
+    GULAMBITOK_SLOT_OWNER_AT = 2,     /* owner+1, 0 when the slot is free; a zero follows */
+    GULAMBITOK_ROW_AT = 4
+};
+
+/* Offsets in a stamp record, after its mark 53 54. */
+enum {
+    GULAMBITOK_STAMP_OWNER_AT = 2,
+    GULAMBITOK_STAMP_DESKS_AT = 3,
+    GULAMBITOK_STAMP_ROW_AT = 4
+};
+
+/* Start writes a fresh book under a setup: rows zero, no seat started, all places free. What the
+ * book held before is lost. The setup is D desks, P phases on the ring, L clock values, M the lag
+ * permitted to a seat, A the lag permitted to a kept stamp, m and n the reach of a comparison back
+ * and ahead. Refusals: 1, 2. */
+uint8_t gulambitok_start(uint8_t *book, size_t book_len, size_t desks, size_t phases, size_t clocks,
+                         size_t seat_lag, size_t shelf_lag, size_t back, size_t ahead);
+
+/* Local at a desk: its own clock grows by 1. Writes the stamp, a record of 20 bytes.
+ * Refusals: 1, 3, 8, 15. */
+uint8_t gulambitok_local(uint8_t *book, size_t book_len, size_t desk, uint8_t *stamp, size_t stamp_len);
+
+/* Send from a desk to another: as local, then its row goes into the lowest free mail place.
+ * Writes the stamp, and the place in one byte. Refusals: 1, 3, 4, 8, 9, 15. */
+uint8_t gulambitok_send(uint8_t *book, size_t book_len, size_t desk, size_t to, uint8_t *stamp,
+                        size_t stamp_len, uint8_t *place, size_t place_len);
+
+/* Receive at a desk from a place: its own clock grows by 1; for every other desk the later of the
+ * two pairs is taken; the place becomes free. Any waiting mail may be taken, in any order. Writes
+ * the stamp. Refusals: 1, 3, 5, 6, 8, 15. */
+uint8_t gulambitok_receive(uint8_t *book, size_t book_len, size_t desk, size_t place, uint8_t *stamp,
+                           size_t stamp_len);
+
+/* Reset at a desk: its own phase grows by 1 modulo P and its own clock becomes 0; no other seat
+ * changes. Writes the stamp. Refusals: 1, 3, 11, 12, 13, 15. */
+uint8_t gulambitok_reset(uint8_t *book, size_t book_len, size_t desk, uint8_t *stamp, size_t stamp_len);
+
+/* Keep at a desk copies its present row to the lowest free slot. Writes the slot in one byte. It
+ * is no event. Refusals: 1, 3, 7, 10, 15. */
+uint8_t gulambitok_keep(uint8_t *book, size_t book_len, size_t desk, uint8_t *slot, size_t slot_len);
+
+/* Drop frees a slot; it is no event. Refusals: 1, 5. */
+uint8_t gulambitok_drop(uint8_t *book, size_t book_len, size_t slot);
+
+/* Discard frees a mail place; it is no event. Refusals: 1, 5. */
+uint8_t gulambitok_discard(uint8_t *book, size_t book_len, size_t place);
+
+/* Before, of two slots: writes 1 when the first is before the second, else 0.
+ * Refusals: 1, 5, 15, 16. */
+uint8_t gulambitok_before(const uint8_t *book, size_t book_len, size_t first, size_t second,
+                          uint8_t *answer, size_t answer_len);
+
+/* Compare asks both ways, of two slots: writes 1 before, 2 after, 3 same, 4 concurrent or 5
+ * crossed. It needs both ways within reach. Refusals: 1, 5, 15, 16. */
+uint8_t gulambitok_compare(const uint8_t *book, size_t book_len, size_t first, size_t second,
+                           uint8_t *answer, size_t answer_len);
+
+/* Show copies the sixteen row bytes of a slot. Refusals: 1, 5, 15. */
+uint8_t gulambitok_show(const uint8_t *book, size_t book_len, size_t slot, uint8_t *row, size_t row_len);
+
+/* Write fills the first 20 bytes of the target with one slot as a stamp record, and no more.
+ * Refusals: 1, 5, 15. */
+uint8_t gulambitok_write(const uint8_t *book, size_t book_len, size_t slot, uint8_t *target,
+                         size_t target_len);
+
+/* Before off the book, of two stamp records of exactly 20 bytes under a setup: writes 1 when the
+ * first is before the second, else 0. Refusals: 2, 14, 15, 16. */
+uint8_t gulambitok_label_before(size_t desks, size_t phases, size_t clocks, size_t seat_lag,
+                                size_t shelf_lag, size_t back, size_t ahead, const uint8_t *first,
+                                size_t first_len, const uint8_t *second, size_t second_len,
+                                uint8_t *answer, size_t answer_len);
+
+/* Compare off the book asks both ways, of two stamp records under a setup: writes 1 before, 2
+ * after, 3 same, 4 concurrent or 5 crossed. Refusals: 2, 14, 15, 16. */
+uint8_t gulambitok_label_compare(size_t desks, size_t phases, size_t clocks, size_t seat_lag,
+                                 size_t shelf_lag, size_t back, size_t ahead, const uint8_t *first,
+                                 size_t first_len, const uint8_t *second, size_t second_len,
+                                 uint8_t *answer, size_t answer_len);
+
+/* Newest of two stamp records under a setup: writes 1 when the first is after the other or they
+ * are the same, 2 when the second is after the other, 0 when they are concurrent or crossed.
+ * Refusals: 2, 14, 15, 16. */
+uint8_t gulambitok_label_newest(size_t desks, size_t phases, size_t clocks, size_t seat_lag,
+                                size_t shelf_lag, size_t back, size_t ahead, const uint8_t *first,
+                                size_t first_len, const uint8_t *second, size_t second_len,
+                                uint8_t *answer, size_t answer_len);
+
+#ifdef __cplusplus
+}
+#endif
+
+#endif

@@ -1,0 +1,142 @@
+/* Makes each call of gulambitok.h, accepted and refused, so that header and archive cannot differ
+ * unseen. The setup is X of document 01. */
+#include "gulambitok.h"
+
+#include <stdio.h>
+#include <string.h>
+
+/* All that is lent, so that one comparison sees every byte. */
+struct lent {
+    uint8_t book[GULAMBITOK_BOOK_BYTES], stamp[GULAMBITOK_STAMP_BYTES + 1], place[2], slot[2];
+    uint8_t answer[2], row[GULAMBITOK_ROW_BYTES + 1], first[GULAMBITOK_STAMP_BYTES + 1];
+    uint8_t second[GULAMBITOK_STAMP_BYTES];
+};
+
+static struct lent now, was;
+static int wrong;
+
+static void expect(const char *what, int held)
+{
+    if (!held) {
+        printf("wrong: %s\n", what);
+        wrong = 1;
+    }
+}
+
+static void refused(const char *call, uint8_t answer, uint8_t number)
+{
+    expect(call, answer == number && memcmp(&now, &was, sizeof now) == 0);
+}
+
+static void done(const char *call, uint8_t answer)
+{
+    expect(call, answer == GULAMBITOK_DONE);
+    was = now;
+}
+
+#define REFUSED(number, call) refused(#call, call, GULAMBITOK_##number)
+#define DONE(call) done(#call, call)
+#define EXPECT(held) expect(#held, held)
+#define BOOK now.book, sizeof now.book
+#define X 3, 5, 4, 2, 4, 2, 2
+
+static void start(void)
+{
+    REFUSED(BAD_BOOK, gulambitok_start(now.book, sizeof now.book - 1, X));
+    REFUSED(BAD_SETUP, gulambitok_start(BOOK, 3, 4, 4, 2, 4, 2, 2));
+    REFUSED(BAD_SETUP, gulambitok_start(BOOK, 256 + 3, 5, 4, 2, 4, 2, 2));
+    REFUSED(BAD_BOOK, gulambitok_local(BOOK, 0, now.stamp, 20));
+    DONE(gulambitok_start(BOOK, X));
+    EXPECT(memcmp(now.book, "BK\3\5\4\2\4\2\2\0\0\0\0\0\0\0SE", 18) == 0);
+}
+
+static void local(void)
+{
+    REFUSED(NO_DESK, gulambitok_local(BOOK, 256, NULL, 0));
+    REFUSED(NO_ROOM, gulambitok_local(BOOK, 0, now.stamp, 19));
+    DONE(gulambitok_local(BOOK, 0, now.stamp, 21));
+    EXPECT(memcmp(now.stamp, "ST\0\3\0\1\0\0\0\0\0\0\0\0\0\0\0\0\0\0\xEE", 21) == 0);
+}
+
+static void send_and_receive(void)
+{
+    REFUSED(SAME_DESK, gulambitok_send(BOOK, 0, 0, now.stamp, 20, now.place, 1));
+    REFUSED(NO_DESK, gulambitok_send(BOOK, 3, 3, now.stamp, 20, now.place, 1));
+    REFUSED(NO_ROOM, gulambitok_send(BOOK, 0, 1, now.stamp, 20, NULL, 0));
+    REFUSED(NO_ROOM, gulambitok_send(BOOK, 0, 1, now.stamp, 19, now.place, 1));
+    DONE(gulambitok_send(BOOK, 0, 1, now.stamp, 20, now.place, 2));
+    EXPECT(now.place[0] == 0 && now.place[1] == 0xEE && now.stamp[5] == 2);
+    REFUSED(NOT_YOURS, gulambitok_receive(BOOK, 2, 0, now.stamp, 20));
+    REFUSED(NO_PLACE, gulambitok_receive(BOOK, 1, 256, now.stamp, 20));
+    REFUSED(NO_ROOM, gulambitok_receive(BOOK, 1, 0, now.stamp, 19));
+    DONE(gulambitok_receive(BOOK, 1, 0, now.stamp, 20));
+    EXPECT(memcmp(now.stamp, "ST\1\3\0\2\0\1", 8) == 0);
+    DONE(gulambitok_send(BOOK, 0, 2, now.stamp, 20, now.place, 1));
+    DONE(gulambitok_discard(BOOK, 0));
+    REFUSED(NO_PLACE, gulambitok_discard(BOOK, 0));
+    REFUSED(PHASE_FULL, gulambitok_local(BOOK, 0, NULL, 0));
+}
+
+/* Slot 0 is desk 0 at 0.3, slot 1 is desk 1, which has seen 0.2 alone. */
+static void shelf(void)
+{
+    REFUSED(NO_EVENT, gulambitok_keep(BOOK, 2, now.slot, 1));
+    REFUSED(NO_ROOM, gulambitok_keep(BOOK, 0, NULL, 0));
+    DONE(gulambitok_keep(BOOK, 0, now.slot, 2));
+    EXPECT(now.slot[0] == 0 && now.slot[1] == 0xEE);
+    DONE(gulambitok_keep(BOOK, 1, now.slot, 1));
+    EXPECT(now.slot[0] == 1);
+    REFUSED(NO_PLACE, gulambitok_before(BOOK, 0, 31, NULL, 0));
+    REFUSED(NO_ROOM, gulambitok_before(BOOK, 0, 1, NULL, 0));
+    DONE(gulambitok_before(BOOK, 0, 1, now.answer, 2));
+    EXPECT(now.answer[0] == 0 && now.answer[1] == 0xEE);
+    REFUSED(NO_ROOM, gulambitok_compare(BOOK, 0, 1, NULL, 0));
+    DONE(gulambitok_compare(BOOK, 0, 1, now.answer, 1));
+    EXPECT(now.answer[0] == GULAMBITOK_CONCURRENT);
+    DONE(gulambitok_compare(BOOK, 1, 1, now.answer, 1));
+    EXPECT(now.answer[0] == GULAMBITOK_SAME);
+    REFUSED(NO_ROOM, gulambitok_show(BOOK, 1, now.row, 15));
+    DONE(gulambitok_show(BOOK, 1, now.row, 17));
+    EXPECT(memcmp(now.row, "\0\2\0\1\0\0\0\0\0\0\0\0\0\0\0\0\xEE", 17) == 0);
+    REFUSED(NO_ROOM, gulambitok_write(BOOK, 0, now.first, 19));
+    DONE(gulambitok_write(BOOK, 0, now.first, 21));
+    EXPECT(memcmp(now.first, "ST\0\3\0\3\0\0\0\0\0\0\0\0\0\0\0\0\0\0\xEE", 21) == 0);
+}
+
+/* The record of desk 0 at 0.3 beside that of its reset. */
+static void reset_and_labels(void)
+{
+    REFUSED(NO_ROOM, gulambitok_reset(BOOK, 0, now.second, 19));
+    DONE(gulambitok_reset(BOOK, 0, now.second, 20));
+    EXPECT(memcmp(now.second, "ST\0\3\1\0\0\0", 8) == 0);
+    REFUSED(BAD_SETUP, gulambitok_label_before(3, 4, 4, 2, 4, 2, 2, NULL, 0, NULL, 0, NULL, 0));
+    REFUSED(BAD_STAMP, gulambitok_label_before(X, now.first, 21, now.second, 20, NULL, 0));
+    REFUSED(NO_ROOM, gulambitok_label_before(X, now.first, 20, now.second, 20, NULL, 0));
+    DONE(gulambitok_label_before(X, now.first, 20, now.second, 20, now.answer, 1));
+    EXPECT(now.answer[0] == 1);
+    REFUSED(NO_ROOM, gulambitok_label_compare(X, now.first, 20, now.second, 20, NULL, 0));
+    DONE(gulambitok_label_compare(X, now.second, 20, now.first, 20, now.answer, 1));
+    EXPECT(now.answer[0] == GULAMBITOK_AFTER);
+    REFUSED(NO_ROOM, gulambitok_label_newest(X, now.first, 20, now.second, 20, NULL, 0));
+    DONE(gulambitok_label_newest(X, now.first, 20, now.second, 20, now.answer, 2));
+    EXPECT(now.answer[0] == GULAMBITOK_SECOND && now.answer[1] == 0xEE);
+    DONE(gulambitok_label_newest(X, now.second, 20, now.second, 20, now.answer, 1));
+    EXPECT(now.answer[0] == GULAMBITOK_FIRST);
+    DONE(gulambitok_reset(BOOK, 0, now.second, 20));
+    REFUSED(SEAT_BEHIND, gulambitok_reset(BOOK, 0, NULL, 0));
+    REFUSED(OUT_OF_REACH, gulambitok_label_newest(X, now.first, 20, now.second, 20, now.answer, 1));
+    DONE(gulambitok_drop(BOOK, 0));
+    REFUSED(NO_PLACE, gulambitok_drop(BOOK, 0));
+}
+
+int main(void)
+{
+    memset(&now, 0xEE, sizeof now);
+    was = now;
+    start();
+    local();
+    send_and_receive();
+    shelf();
+    reset_and_labels();
+    return wrong;
+}
