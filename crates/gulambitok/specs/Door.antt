@@ -4,12 +4,12 @@
 --   tooShort n t     the lent buffer t has fewer than n bytes
 --   eitherShort t u  the buffer t is too short for a stamp record, or u for a place
 --   orNoRoom n       NoRoom or the number n, whichever is smaller; 0 is no reason
---   cramped q a      the answer a to a call, where q holds with NoRoom as one more reason: a lent buffer is too short
+--   cramped q a      the answer a to a call, with NoRoom as one more reason where q holds: a lent buffer is too short
 --   bookBy q s c     the bytes that the act c leaves of the book s: the same ones where q holds
---   given f t q a    the lent buffer t after a call that is answered a: in front of it the bytes f of its value
+--   given f t q a    the lent buffer t after a call that is answered cramped q a: in front the bytes f of its value
 --   relationByte r   the byte of a relation
 --   byteIn v         the one byte of a value that is a place, a slot, a yes or no, or a relation; none with any other value
---   stampIn s v      the stamp record of a value that is a stamp, under the setup of the book s; none with any other value
+--   stampIn s v      the stamp record of a value that is a stamp, with the D of the book s; none with any other value
 --   whichByte w      the byte of one of two records, or of neither
 --   whichIn v        the byte of the newest of two records that a value relates; none with any other value
 use Prim.Native.Nat.{ℕ}

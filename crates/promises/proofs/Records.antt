@@ -16,14 +16,14 @@ use Rattle.tools.proofs.Tables.{put-same, some-is, none-some}
 use Rattle.ring.specs.Phases.{Pair, ring}
 use Rattle.rules.specs.declared.Setup.{Setup}
 use Rattle.rules.specs.Model.{Row, Seat, Held, Tables, Act, local, reset, keep, drop, discard, show, send, receive, before, compare, write, Answer, byIn, rowIn, used, why, done, step, settle, zeros}
-use Rattle.rules.specs.Labels.{Label}
+use Rattle.rules.specs.Labels.{Label, newestOff}
 use Rattle.rules.specs.Fits.{PairFits, RowFits, SlotFits, Fits}
 use Rattle.rules.specs.Setups.{permits}
 use Rattle.rules.specs.Calls.{Book, Call, start, on, call}
 use Rattle.rules.specs.History.{State, begin, next, after, logAfter, setupAfter}
 use Rattle.rules.specs.Round.{roundBook}
 use Rattle.rules.specs.Stamps.{labelOf, slotOf, ownerAt, stampIn, stampGiven, Answered}
-use Rattle.rules.specs.Demand.{InReach, BeforeSaid, CompareSaid, Newer}
+use Rattle.rules.specs.Demand.{InReach, BeforeSaid, CompareSaid}
 use Rattle.rules.proofs.Labels.{off-before, off-compare, off-newest}
 use Rattle.rules.proofs.Agree.{state-agree-before, state-agree-compare}
 use Rattle.rules.proofs.Alike.{ring-book}
@@ -36,13 +36,13 @@ use Rattle.book.specs.Codec.{decode}
 use Rattle.book.specs.Stamps.{pairReads, writeStamp, readStamp, filled}
 use Rattle.labels.specs.Records.{Readable}
 use Rattle.labels.proofs.Records.{read-write}
-use Rattle.book.specs.Answers.{admits, answerTo, bookAfter, targetAfter}
+use Rattle.book.specs.Answers.{admits, answerTo, bookAfter, targetAfter, beforeOf, compareOf}
 use Rattle.book.specs.Numbers.{tablesOf, numberOf}
 use Rattle.book.proofs.Numbers.{accepted-answer, refused-answer}
 use Rattle.book.proofs.Soundness.{sound-setup, sound-fits}
 use Rattle.book.proofs.Answers.{answer-is}
 use Rattle.promises.specs.Runs.{bytesAfter}
-use Rattle.promises.specs.Records.{stampFrom, Recorded, beforeOf, compareOf, newestOf}
+use Rattle.promises.specs.Records.{stampFrom, Recorded, NewestIs}
 use Rattle.promises.proofs.Together.{ring-answer, together-start}
 use Rattle.promises.proofs.Demand.{together}
 
@@ -189,9 +189,12 @@ module _ (s : List ℕ) (X : Setup) (started : answerTo s (start X) .number ≡ 
 
     -- Newest is the one that is after the other, the first if they are of one event, neither if they are concurrent.
     pub records-newest : InReach (setupAfter X cs) (logAfter X cs) x y → InReach (setupAfter X cs) (logAfter X cs) y x
-        → Newer (logAfter X cs) x y (newestOf (setupAfter X cs) r q)
-    records-newest l m =
-        rw (reads r x a, reads q y c) (off-newest X fair cs x y (a .stamp) (c .stamp) (answered r x a) (answered q y c) l m)
+        → NewestIs (setupAfter X cs) (logAfter X cs) x y r q
+    records-newest l m = (
+      newestOff (setupAfter X cs) (readStamp (setupAfter X cs) r) (readStamp (setupAfter X cs) q),
+      refl,
+      rw (reads r x a, reads q y c) (off-newest X fair cs x y (a .stamp) (c .stamp) (answered r x a) (answered q y c) l m),
+    )
 
   -- two kept stamps, and the records that are written from them
   module _ (i j : ℕ) (e f : Held) (pe : decode bytes .tables .shelf i ≡ some e) (pf : decode bytes .tables .shelf j ≡ some f) where

@@ -3,20 +3,22 @@
 --   stampFrom s c        the stamp that the act c is answered on the bytes s: by an event, or by show or write of a slot
 --   Recorded s X cs r x  r is the record of a stamp that one of the calls cs was answered, the stamp of the event x; the calls
 --                        begin with an accepted start of X on the bytes s, and no later start is accepted
---   beforeOf, compareOf, newestOf   before, compare and newest off the book, of two records read under a setup
+--   NewestIs X h x y r q  newest of the records r and q hands back that of the later event, the first's if they are one event
 use mathlib.Core.Path.{_≡_}
 use mathlib.Core.Option.{Option, some}
 use mathlib.Core.List.{List, _∷_, _++_}
 use Prim.Native.Nat.{ℕ}
 use Rattle.rules.specs.declared.Setup.{Setup}
-use Rattle.rules.specs.Model.{Act, Answer}
+use Rattle.rules.specs.Model.{Act}
 use Rattle.rules.specs.Calls.{Call, start, on}
-use Rattle.rules.specs.Labels.{Label, Which, beforeOff, compareOff, newestOff}
-use Rattle.rules.specs.History.{begin, after, setupAfter}
+use Rattle.rules.specs.Labels.{Label, Which}
+use Rattle.rules.specs.History.{Log, begin, after, setupAfter}
 use Rattle.rules.specs.Stamps.{slotOf, ownerAt, stampIn, eventOf, Ongoing}
 use Rattle.book.specs.Codec.{decode}
-use Rattle.book.specs.Stamps.{writeStamp, readStamp}
+use Rattle.rules.specs.Demand.{Newer}
+use Rattle.book.specs.Stamps.{writeStamp}
 use Rattle.book.specs.Answers.{answerTo, bookAfter}
+use Rattle.labels.specs.Records.{newestPart, newestOf}
 use Rattle.promises.specs.Runs.{bytesAfter}
 
 abbrev pub stampFrom : List ℕ → Act → Option Label
@@ -33,11 +35,5 @@ pub record Recorded (s : List ℕ) (X : Setup) (cs : List Call) (r : List ℕ) (
   pub written : writeStamp (setupAfter X cs .desks) stamp ≡ r
   pub event : eventOf (after (begin X) earlier .history) act ≡ x
 
-abbrev pub beforeOf : Setup → List ℕ → List ℕ → Answer
-beforeOf X r q = beforeOff X (readStamp X r) (readStamp X q)
-
-abbrev pub compareOf : Setup → List ℕ → List ℕ → Answer
-compareOf X r q = compareOff X (readStamp X r) (readStamp X q)
-
-abbrev pub newestOf : Setup → List ℕ → List ℕ → Which
-newestOf X r q = newestOff X (readStamp X r) (readStamp X q)
+abbrev pub NewestIs : Setup → Log → ℕ → ℕ → List ℕ → List ℕ → Type 0
+NewestIs X h x y r q = (w : Which) × (newestOf X r q ≡ newestPart w r q) × Newer h x y w
