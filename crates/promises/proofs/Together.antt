@@ -27,11 +27,15 @@ pub record Together (s : List ℕ) (t : State) : Type 0 where
   pub told : decode s ≡ roundBook (t .book)
   pub faithful : Faithful t
 
+-- a sound book is not refused as a bad one
+pub sound-admits : (s : List ℕ) → sound s ≡ true → (c : Call) → admits s c ≡ true
+unfolding admits
+sound-admits s h (start X) = eq-eqb _ _ (sound-size s h)
+sound-admits s h (on c) = h
+
 module _ (s : List ℕ) (t : State) (w : Together s t) where
   admitted : (c : Call) → admits s c ≡ true
-  unfolding admits
-  admitted (start X) = eq-eqb _ _ (sound-size s (w .whole))
-  admitted (on c) = w .whole
+  admitted = sound-admits s (w .whole)
 
   -- one call on the bytes is the same call on the ring's book, and on the line, come round
   pub ring-answer : (c : Call) → answerTo s c ≡ call ringOf (roundBook (t .book)) c .answer
