@@ -2,7 +2,7 @@
 -- Assumes nothing.
 use Prim.Native.Nat.{ℕ, _+_, _≤_}
 use mathlib.Core.Path.{_≡_, refl, sym, ap, _∙_, subst}
-use mathlib.Core.Bool.{Bool, true, false, _||_}
+use mathlib.Core.Bool.{Bool, true, false, _&&_, _||_}
 use mathlib.Core.Option.{Option}
 use mathlib.Core.List.{List}
 use native.Mathlib.Omega.{arith}
@@ -47,8 +47,8 @@ use Rattle.book.specs.Stamps.{writeStamp}
 use Rattle.book.specs.Answers.{answerTo, partIn, recordIn, partOf}
 use Rattle.book.specs.Numbers.{tablesOf, numberOf}
 use Rattle.book.proofs.Soundness.{sound-size}
-use Rattle.book.proofs.Rows.{rows-alike, row-bytes-at}
-use Rattle.book.proofs.Stamped.{row-of-bytes}
+use Rattle.rules.proofs.RowBytes.{rows-alike, row-of-bytes}
+use Rattle.book.proofs.Rows.{row-bytes-at}
 use Rattle.book.proofs.Told.{read-at}
 use Rattle.book.proofs.Numbers.{ready, accepted-answer}
 use Rattle.comparing.specs.declared.Way.{Way}
@@ -56,6 +56,10 @@ use Rattle.comparing.specs.Ways.{gapOf, Clocked}
 use Rattle.comparing.proofs.Ways.{before-is, relation-is}
 use Rattle.asking.specs.Slots.{WayBetween, slotsNumber, recordFor}
 use Rattle.asking.proofs.Slots.{slot-place, slot-row}
+
+or-none : (t : Bool) → (t || false) ≡ t
+or-none true = refl
+or-none false = refl
 
 -- two used slots of a sound book
 pub record Two (s : List ℕ) (i k : ℕ) : Type 0 where
@@ -104,23 +108,21 @@ module _ (s : List ℕ) (i k : ℕ) where
       go false u z = z
 
   module _ (n : ℕ) (e : n ≡ slotsNumber s i k) (ne : n ≡ 0 → ⊥) where
-    pub before-due : n ≡ numberOf s (before i k)
+    pub reach-due : (both : Bool) → n ≡ numberOf s (pick both (compare i k) (before i k))
     unfolding reasons
-    before-due = due n e ne _
-
-    pub compare-due : n ≡ numberOf s (compare i k)
-    unfolding reasons
-    compare-due = due n e ne _
+    reach-due true = due n e ne _
+    reach-due false = due n e ne _
 
   -- where it is not, the reach decides
   module _ (h : Two s i k) (o : Bool) where
-    pub before-number : isOut there ≡ o → pick o (number OutOfReach) 0 ≡ numberOf s (before i k)
-    unfolding reasons
-    before-number q = sym (λ x. pick (h .whole x) (pick (h .first x || h .second x) 5 (pick (q x) 16 0)) 1)
+    reached : (r : Bool) → r ≡ o → pick o (number OutOfReach) 0 ≡ pick (sound s) (pick missing 5 (pick r 16 0)) 1
+    reached r q = sym (λ x. pick (h .whole x) (pick (h .first x || h .second x) 5 (pick (q x) 16 0)) 1)
 
-    pub compare-number : (isOut there || isOut back) ≡ o → pick o (number OutOfReach) 0 ≡ numberOf s (compare i k)
+    pub reach-number : (both : Bool) → (isOut there || (both && isOut back)) ≡ o
+        → pick o (number OutOfReach) 0 ≡ numberOf s (pick both (compare i k) (before i k))
     unfolding reasons
-    compare-number q = sym (λ x. pick (h .whole x) (pick (h .first x || h .second x) 5 (pick (q x) 16 0)) 1)
+    reach-number true q = reached (isOut there || isOut back) q
+    reach-number false q = reached (isOut there) (sym (or-none (isOut there)) ∙ q)
 
   module _ (e : numberOf s (before i k) ≡ 0) where
     before-clear : Two s i k × (isOut there ≡ false)

@@ -3,6 +3,7 @@ ghost use mathlib.Core.Path.{_≡_};
 ghost use mathlib.Core.Bool.{true, false};
 ghost use Prim.Native.Nat.{_+_, _*_, _-_, _<_};
 ghost use lib.ListN.{length};
+ghost use Rattle.tools.specs.Tests.{pick};
 ghost use Rattle.rules.specs.Model;
 ghost use Rattle.rules.specs.Model.{says, relates, accepted, byIn, noSlot};
 ghost use Rattle.rules.specs.Calls.{on};
@@ -59,24 +60,9 @@ fn slots_number(book: &[u8], first: usize, second: usize) -> u8
     rules::DONE
 }
 
-// The number that before is answered.
-pub fn before_number(book: &[u8], first: usize, second: usize) -> u8
-    ensures { λ r. ⌜ r ≡ numberOf (now (book .entry)) (Model.before first second) ⌝ }
-{
-    let n = slots_number(book, first, second);
-    if n != rules::DONE {
-        return n;
-    }
-    let s = parts::setup_of(book);
-    if comparing::out_of_reach(s, way_of(book, first, second)) {
-        return rules::OUT_OF_REACH;
-    }
-    rules::DONE
-}
-
-// The number that compare is answered: it needs both ways within reach.
-pub fn compare_number(book: &[u8], first: usize, second: usize) -> u8
-    ensures { λ r. ⌜ r ≡ numberOf (now (book .entry)) (Model.compare first second) ⌝ }
+// The number that before is answered; with both ways, that of compare, which needs both within reach.
+pub fn reach_number(book: &[u8], first: usize, second: usize, both: bool) -> u8
+    ensures { λ r. ⌜ r ≡ numberOf (now (book .entry)) (pick both (Model.compare first second) (Model.before first second)) ⌝ }
 {
     let n = slots_number(book, first, second);
     if n != rules::DONE {
@@ -84,7 +70,7 @@ pub fn compare_number(book: &[u8], first: usize, second: usize) -> u8
     }
     let s = parts::setup_of(book);
     if comparing::out_of_reach(s, way_of(book, first, second))
-        | comparing::out_of_reach(s, way_of(book, second, first))
+        | (both & comparing::out_of_reach(s, way_of(book, second, first)))
     {
         return rules::OUT_OF_REACH;
     }

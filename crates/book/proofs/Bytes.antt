@@ -11,29 +11,9 @@ use Rattle.tools.specs.Lists.{byte, tab}
 use Rattle.tools.proofs.Tests.{lt-or-le, eq-or-ne}
 use Rattle.tools.proofs.Lists.{length-tab, tab-at}
 use Rattle.rules.specs.declared.Setup.{Setup}
-use Rattle.rules.specs.Model.{Row}
 use Rattle.rules.specs.Replies.{rowByte}
+use Rattle.rules.proofs.RowBytes.{row-phase, row-clock, row-alike}
 use Rattle.book.specs.Layout.{Record, Fields, spot, headByte, mark0, mark1, markedByte, recordByte, byteOf, layout, setupOf, rowAt, fields, Holds}
-
--- a row by its bytes
-pub row-phase : (r : Row) (j : ℕ) → rowByte r (2 * j) ≡ r j .phase
-unfolding rowByte
-row-phase r j =
-    let e : (2 * j) % 2 ≡ 0 = omega arith in
-    let d : 2 * j / 2 ≡ j = omega arith in
-    rw (eq-eqb _ _ e, d)
-
-pub row-clock : (r : Row) (j : ℕ) → rowByte r (1 + 2 * j) ≡ r j .clock
-unfolding rowByte
-row-clock r j =
-    let e : (1 + 2 * j) % 2 ≡ 0 → ⊥ = omega arith in
-    let d : (1 + 2 * j) / 2 ≡ j = omega arith in
-    rw (ne-eqb _ _ e, d)
-
--- rows that agree for eight desks have the same bytes
-pub row-alike : (r s : Row) → ((j : ℕ) → j < 8 → r j ≡ s j) → (c : ℕ) → c < 16 → rowByte r c ≡ rowByte s c
-unfolding rowByte
-row-alike r s h c l = rw (h (c / 2) (omega arith))
 
 -- the row that stands in the bytes
 pub row-at : (b : List ℕ) (k c : ℕ) → rowByte (rowAt b k) c ≡ byte b (spot k (4 + c))

@@ -15,12 +15,9 @@ use Rattle.tools.proofs.Lists.{length-tab, tab-at, is-tab, tab-same}
 use Rattle.ring.specs.Phases.{Pair}
 use Rattle.rules.specs.Model.{Row}
 use Rattle.rules.specs.Replies.{rowByte, rowBytes}
+use Rattle.rules.proofs.RowBytes.{row-phase, row-clock}
 use Rattle.book.specs.Layout.{spot, rowAt}
-use Rattle.book.proofs.Bytes.{row-phase, row-clock, row-alike, row-at}
-
-pub rows-alike : (r s : Row) → ((j : ℕ) → j < 8 → r j ≡ s j) → rowBytes r ≡ rowBytes s
-unfolding rowBytes
-rows-alike r s h = tab-same 16 (rowByte r) (rowByte s) (row-alike r s h)
+use Rattle.book.proofs.Bytes.{row-at}
 
 -- the row that stands in the bytes
 pub row-bytes-at : (b : List ℕ) (k : ℕ) → tab 0 16 (λ c. byte b (spot k (4 + c))) ≡ rowBytes (rowAt b k)

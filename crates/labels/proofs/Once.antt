@@ -5,8 +5,8 @@ use mathlib.Core.Path.{_≡_, sym, ap, _∙_}
 use mathlib.Core.List.{List}
 use lib.ListN.{length}
 use Rattle.rules.specs.Model.{Answer}
-use Rattle.rules.specs.Replies.{rowBytes, rowOf}
-use Rattle.book.proofs.Stamped.{bytes-of-row}
+use Rattle.rules.specs.Replies.{rowOf}
+use Rattle.rules.proofs.RowBytes.{row-once}
 use Rattle.labels.specs.declared.Owner.{Owner}
 use Rattle.labels.specs.declared.Owner.the-variants.{Of, Refused}
 use Rattle.labels.specs.declared.Reading.{Reading}
@@ -23,7 +23,7 @@ reading-once r r′ e b b′ n n′ = go (r .who) (r .row) (r′ .who) (r′ .ro
         let v = ap (λ (a : Answer). a .value) e in
         let o : j ≡ j′ = cc in
         let q : rowOf l ≡ rowOf l′ = cc in
-        let s : l ≡ l′ = sym (bytes-of-row l n) ∙ ap rowBytes q ∙ bytes-of-row l′ n′ in
+        let s = row-once l l′ n n′ q in
         λ i. record { who = Of (o i); row = s i }
     go (Of j) l (Refused m) l′ e b b′ n n′ = let v = ap (λ (a : Answer). a .value) e in cc
     go (Refused m) l (Of j) l′ e b b′ n n′ = let v = ap (λ (a : Answer). a .value) e in cc

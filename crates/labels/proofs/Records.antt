@@ -22,8 +22,8 @@ use Rattle.rules.specs.Labels.{Label}
 use Rattle.rules.specs.Replies.{rowByte, rowBytes}
 use Rattle.book.specs.Layout.{markedByte}
 use Rattle.book.specs.Stamps.{stampByte, writeStamp, labelOf, pairReads, readOk, readStamp}
-use Rattle.book.proofs.Bytes.{row-phase, row-clock, marked-row, marked-bytes}
-use Rattle.book.proofs.Stamped.{bytes-of-row}
+use Rattle.rules.proofs.RowBytes.{row-phase, row-clock, bytes-of-row}
+use Rattle.book.proofs.Bytes.{marked-row, marked-bytes}
 use Rattle.labels.specs.Records.{Readable}
 
 pub label-pair : (r : List ℕ) (j : ℕ) → j < 8

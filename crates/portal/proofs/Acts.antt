@@ -2,39 +2,44 @@
 -- Assumes nothing.
 use Prim.Native.Nat.{ℕ, zero, suc, _+_, _<_}
 use mathlib.Core.Path.{_≡_, refl, sym, ap, _∙_, subst}
-use mathlib.Core.Bool.{true}
+use mathlib.Core.Bool.{Bool, true, false, not}
 use mathlib.Core.Option.{Option, none, some}
 use mathlib.Core.List.{List}
 use native.Mathlib.Omega.{arith}
 use borrow.Author.Tests.{ne-eqb}
+use Rattle.tools.specs.Tests.{pick}
 use Rattle.tools.specs.Tables.{put}
 use Rattle.tools.specs.Lists.{byte}
 use Rattle.tools.proofs.Tests.{not-off}
 use Rattle.tools.proofs.Reasons.{clear}
+use Rattle.ring.specs.Phases.{Pair}
 use Rattle.rules.specs.declared.Stamp.{Stamp}
 use Rattle.rules.specs.declared.Stamped.{Stamped}
 use Rattle.rules.specs.declared.Posted.{Posted}
 use Rattle.rules.specs.declared.Posted.the-variants as Posts
 use Rattle.rules.specs.declared.Kept.{Kept}
 use Rattle.rules.specs.declared.Kept.the-variants as Keeps
-use Rattle.rules.specs.Model.{Row, Held, Tables, Act, local, send, receive, reset, keep, drop, discard, Value, stamp, refusal, accepted, Result, reasons, done, own, event, freeMail, freeSlot, noMail, noSlot, used, zeros, sent, slot}
+use Rattle.rules.specs.Numbers.{BadBook, NoPlace, number}
+use Rattle.rules.specs.Model.{Row, Held, Tables, Act, local, send, receive, reset, keep, drop, discard, Value, stamp, refusal, accepted, Result, reasons, done, own, event, freeMail, freeSlot, used, sent, slot}
 use Rattle.rules.specs.Calls.{on, ringOf}
-use Rattle.rules.specs.Replies.{rowBytes, rowOf, stampedSays, postedSays, keptSays, blank, Beside}
+use Rattle.rules.specs.Replies.{rowBytes, rowOf, stampedSays, postedSays, keptSays, blank, Beside, BesidePost}
 use Rattle.rules.proofs.Bounded.{no-local, no-send, no-receive, no-reset, no-keep}
 use Rattle.book.specs.Layout.{setupOf, rowAt, Holds, post}
 use Rattle.book.specs.Sound.{sound}
 use Rattle.book.specs.Codec.{write}
-use Rattle.book.specs.Answers.{answerTo, bookAfter}
+use Rattle.book.specs.Answers.{answerTo, leaves, bookAfter}
 use Rattle.book.specs.Numbers.{tablesOf, numberOf}
 use Rattle.book.proofs.Codec.{decode-holds}
-use Rattle.book.proofs.Rows.{rows-alike}
+use Rattle.rules.proofs.RowBytes.{Eight, rows-alike, row-of-bytes}
 use Rattle.book.proofs.Puts.{seat-put, mail-put, slot-put}
-use Rattle.book.proofs.Numbers.{doneOn, answer-number, refused-answer, refused-bytes, ready, accepted-answer, accepted-bytes}
-use Rattle.book.proofs.Stamped.{Eight, row-of-bytes, seat-put-eight, merged-eight}
+use Rattle.book.proofs.Numbers.{doneOn, refused-answer, refused-bytes, ready, accepted-answer, accepted-bytes}
+use Rattle.book.proofs.Stamped.{seat-put-eight, merged-eight}
 use Rattle.book.proofs.Told.{seat-row, read-at, few-desks}
 use Rattle.rows.specs.Rows.{AtDesk, Grows, grownRow, turnedRow, mergedRow}
 use Rattle.rows.proofs.Rows.{at-desk, grows}
+use Rattle.refusals.specs.Held.{usedAt, usedNumber}
 use Rattle.refusals.proofs.Held.{used-below}
+use Rattle.portal.specs.Fresh.{cleared, freeAfter}
 
 -- the number n alone, and the bytes b
 abbrev pub Files : List ℕ → Act → ℕ → List ℕ → Type 0
@@ -46,7 +51,7 @@ Stamps s c r b = (stampedSays r ≡ answerTo s (on c)) × (Beside (r .number) (r
 
 -- a place with a stamp beside it
 abbrev pub Sends : List ℕ → Act → Posted → Stamp → List ℕ → Type 0
-Sends s c p x b = (postedSays p x ≡ answerTo s (on c)) × (Beside (answerTo s (on c) .number) x × (b ≡ bookAfter s (on c)))
+Sends s c p x b = (postedSays p x ≡ answerTo s (on c)) × (BesidePost p x × (b ≡ bookAfter s (on c)))
 
 -- a slot
 abbrev pub Keeping : List ℕ → Act → Kept → List ℕ → Type 0
@@ -55,10 +60,6 @@ Keeping s c k b = (keptSays k ≡ answerTo s (on c)) × (b ≡ bookAfter s (on c
 blank-beside : (n : ℕ) → Beside n blank
 blank-beside zero = tt
 blank-beside (suc n) = refl
-
-done-beside : (n : ℕ) (x : Stamp) → n ≡ 0 → Beside n x
-done-beside zero x e = tt
-done-beside (suc n) x e = absurd (omega arith)
 
 -- refused
 module _ (s : List ℕ) (c : Act) (n : ℕ) (e : n ≡ numberOf s c) (ne : n ≡ 0 → ⊥) where
@@ -72,12 +73,14 @@ module _ (s : List ℕ) (c : Act) (n : ℕ) (e : n ≡ numberOf s c) (ne : n ≡
       (rw (ne-eqb n 0 ne) (refused-answer s c n e ne), (blank-beside n, refused-bytes s c n e ne))
 
   pub refused-sends : (x : Stamp) → x ≡ blank → Sends s c (Posts.Refused n) x s
-  refused-sends x q =
-      subst (λ (x : Stamp). Sends s c (Posts.Refused n) x s) (sym q)
-      (refused-answer s c n e ne, (blank-beside (answerTo s (on c) .number), refused-bytes s c n e ne))
+  refused-sends x q = (refused-answer s c n e ne, (q, refused-bytes s c n e ne))
 
   pub refused-keeping : Keeping s c (Keeps.Refused n) s
   refused-keeping = (refused-answer s c n e ne, refused-bytes s c n e ne)
+
+-- the stamp of an event at j that leaves the bytes of a row
+abbrev pub taken : ℕ → List ℕ → Stamped
+taken j row = record { number = 0; stamp = record { owner = j; row = row } }
 
 -- the tables with the mail as given
 abbrev posted : List ℕ → (ℕ → Option Held) → Tables
@@ -100,14 +103,22 @@ module _ (s : List ℕ) (c : Act) (e : numberOf s c ≡ 0) (j : ℕ) (l : j < 8)
   event-said : accepted v ≡ answerTo s (on c)
   event-said = ap (λ (q : Result). q .answer) (sym d) ∙ accepted-answer s c e
 
-  event-stamps : Eight r → v ≡ stamp j r → (x : Stamp) (b′ : List ℕ) → x ≡ record { owner = j; row = row } → b′ ≡ post b j 1 0 row
-      → Stamps s c (record { number = 0; stamp = x }) b′
+  event-stamps : Eight r → v ≡ stamp j r → (x : Stamped) (b′ : List ℕ) → x ≡ taken j row → b′ ≡ post b j 1 0 row → Stamps s c x b′
   unfolding stampedSays
-  event-stamps z ev x b′ ex eb = (
-    ap (λ (y : Stamp). accepted (stamp (y .owner) (rowOf (y .row)))) ex
-        ∙ ap (λ (ρ : Row). accepted (stamp j ρ)) (row-said z) ∙ ap accepted (sym ev) ∙ event-said,
-    (tt, event-left b′ eb),
-  )
+  event-stamps z ev x b′ ex eb =
+      subst (λ (y : Stamped). Stamps s c y b′) (sym ex)
+      (ap (λ (ρ : Row). accepted (stamp j ρ)) (row-said z) ∙ ap accepted (sym ev) ∙ event-said, (tt, event-left b′ eb))
+
+-- and where nothing but the desk's own pair changes
+module _ (s : List ℕ) (c : Act) (e : numberOf s c ≡ 0) (j : ℕ) (g : AtDesk s j) (q : Pair) where
+  abbrev after : Row
+  after = put (tablesOf s .seat j .row) j q
+
+  seat-stamps : doneOn s c ≡ event (tablesOf s) j after (tablesOf s .mail) (stamp j after) → (x : Stamped) (row b : List ℕ) → x ≡ taken j row
+      → row ≡ rowBytes after → b ≡ post s j 1 0 row → Stamps s c x b
+  seat-stamps d x row b ex er eb =
+      event-stamps s c e j (g .eight) after (tablesOf s .mail) (stamp j after) d s (decode-holds s (g .whole)) row er
+      (seat-put-eight s j (g .eight) q) refl x b ex eb
 
 module _ (s : List ℕ) (j : ℕ) (e : numberOf s (local j) ≡ 0) where
   pub local-grows : Grows s j
@@ -116,13 +127,10 @@ module _ (s : List ℕ) (j : ℕ) (e : numberOf s (local j) ≡ 0) where
       let n = no-local (ringOf (setupOf s)) (setupOf s) (tablesOf s) j (r .1) in
       grows s j (r .0) (n .0) (n .1)
 
-  pub local-stamps : (x : Stamp) (row b : List ℕ) → x ≡ record { owner = j; row = row } → row ≡ rowBytes (grownRow s j) → b ≡ post s j 1 0 row
-      → Stamps s (local j) (record { number = 0; stamp = x }) b
+  pub local-stamps : (x : Stamped) (row b : List ℕ) → x ≡ taken j row → row ≡ rowBytes (grownRow s j) → b ≡ post s j 1 0 row
+      → Stamps s (local j) x b
   unfolding done
-  local-stamps x row b ex er eb =
-      let g = local-grows .at in
-      event-stamps s (local j) e j (g .eight) (grownRow s j) (tablesOf s .mail) (stamp j (grownRow s j)) refl s (decode-holds s (g .whole)) row er
-      (seat-put-eight s j (g .eight) _) refl x b ex eb
+  local-stamps = seat-stamps s (local j) e j (local-grows .at) _ refl
 
 module _ (s : List ℕ) (j : ℕ) (e : numberOf s (reset j) ≡ 0) where
   pub reset-at : AtDesk s j
@@ -130,13 +138,10 @@ module _ (s : List ℕ) (j : ℕ) (e : numberOf s (reset j) ≡ 0) where
       let r = ready s (reset j) e in
       at-desk s j (r .0) (no-reset (ringOf (setupOf s)) (setupOf s) (tablesOf s) j (r .1) .0)
 
-  pub reset-stamps : (x : Stamp) (row b : List ℕ) → x ≡ record { owner = j; row = row } → row ≡ rowBytes (turnedRow s j) → b ≡ post s j 1 0 row
-      → Stamps s (reset j) (record { number = 0; stamp = x }) b
+  pub reset-stamps : (x : Stamped) (row b : List ℕ) → x ≡ taken j row → row ≡ rowBytes (turnedRow s j) → b ≡ post s j 1 0 row
+      → Stamps s (reset j) x b
   unfolding done
-  reset-stamps x row b ex er eb =
-      let g = reset-at in
-      event-stamps s (reset j) e j (g .eight) (turnedRow s j) (tablesOf s .mail) (stamp j (turnedRow s j)) refl s (decode-holds s (g .whole)) row er
-      (seat-put-eight s j (g .eight) _) refl x b ex eb
+  reset-stamps = seat-stamps s (reset j) e j reset-at _ refl
 
 module _ (s : List ℕ) (j p : ℕ) (e : numberOf s (receive j p) ≡ 0) where
   receive-clear : (j < byte s 2) × (used (tablesOf s .mail p) ≡ true) × (own (tablesOf s) j .clock + 1 < byte s 4) × (p < 32)
@@ -148,14 +153,13 @@ module _ (s : List ℕ) (j p : ℕ) (e : numberOf s (receive j p) ≡ 0) where
   pub receive-place : p < 32
   receive-place = receive-clear .3
 
-  pub receive-stamps : (x : Stamp) (row b b′ : List ℕ) → x ≡ record { owner = j; row = row } → row ≡ rowBytes (mergedRow s j p)
-      → b ≡ post s (8 + p) 0 0 (rowBytes zeros) → b′ ≡ post b j 1 0 row
-      → Stamps s (receive j p) (record { number = 0; stamp = x }) b′
+  pub receive-stamps : (x : Stamped) (row b b′ : List ℕ) → x ≡ taken j row → row ≡ rowBytes (mergedRow s j p)
+      → b ≡ cleared s (8 + p) → b′ ≡ post b j 1 0 row → Stamps s (receive j p) x b′
   unfolding done
   receive-stamps x row b b′ ex er eb eb′ =
       let g = receive-grows .at in
       event-stamps s (receive j p) e j (g .eight) (mergedRow s j p) (put (tablesOf s .mail) p none) (stamp j (mergedRow s j p)) refl
-      (post s (8 + p) 0 0 (rowBytes zeros))
+      (cleared s (8 + p))
       (mail-put (setupOf s) (tablesOf s) s (decode-holds s (g .whole)) p receive-place none) row er
       (merged-eight s (ringOf (setupOf s)) j p (g .eight)) refl x b′ ex (eb′ ∙ ap (λ (y : List ℕ). post y j 1 0 row) eb)
 
@@ -191,7 +195,7 @@ module _ (s : List ℕ) (j k : ℕ) (e : numberOf s (send j k) ≡ 0) where
             (row-said s (send j k) e j (g .eight) (grownRow s j) mail v refl mailed h row er (seat-put-eight s j (g .eight) _))
             ∙ event-said s (send j k) e j (g .eight) (grownRow s j) mail v refl mailed h row er,
         (
-          done-beside (answerTo s (on (send j k)) .number) x (answer-number s (send j k) ∙ e),
+          tt,
           event-left s (send j k) e j (g .eight) (grownRow s j) mail v refl mailed h row er b′
               (eb′ ∙ ap (λ (y : List ℕ). post y j 1 0 row) (eb ∙ (λ i. post s (8 + ep i) (j + 1) (k + 1) (er i)))),
         ),
@@ -223,33 +227,43 @@ module _ (s : List ℕ) (j : ℕ) (e : numberOf s (keep j) ≡ 0) where
             (some record { by = j; to = 0; row = tablesOf s .seat j .row })),
       )
 
--- drop and discard
-module _ (s : List ℕ) (p : ℕ) (e : numberOf s (drop p) ≡ 0) where
-  pub drop-whole : sound s ≡ true
-  drop-whole = ready s (drop p) e .0
+-- a used place or slot is freed
+module _ (s : List ℕ) (a p : ℕ) where
+  pub used-ready : usedNumber s a p ≡ 0 → (sound s ≡ true) × (p < 32)
+  used-ready = go (sound s) refl
+    where
+      go : (t : Bool) → sound s ≡ t → pick t (pick (not (usedAt s a p)) (number NoPlace) 0) (number BadBook) ≡ 0
+          → (sound s ≡ true) × (p < 32)
+      go true h e = (h, used-below s a p (not-off _ (clear (not (usedAt s a p)) 4 0 e .0)))
+      go false h e = absurd (omega arith)
 
-  pub drop-slot : p < 32
-  unfolding reasons
-  drop-slot = used-below s 40 p (not-off _ (clear (noSlot (tablesOf s) p) 4 _ (ready s (drop p) e .1) .0))
+  pub free-done : usedNumber s a p ≡ 0 → (b : List ℕ) → b ≡ cleared s (a + p) → b ≡ freeAfter s a p
+  free-done e b eb = eb ∙ ap (λ (n : ℕ). leaves n s (cleared s (a + p))) (sym e)
 
-  pub drop-files : (b : List ℕ) → b ≡ post s (40 + p) 0 0 (rowBytes zeros) → Files s (drop p) 0 b
-  unfolding done
-  drop-files b eb = (
-    accepted-answer s (drop p) e,
-    eb ∙ accepted-bytes s (drop p) e _ (slot-put (setupOf s) (tablesOf s) s (decode-holds s drop-whole) p drop-slot none),
-  )
+  pub free-left : (n : ℕ) → n ≡ usedNumber s a p → (n ≡ 0 → ⊥) → s ≡ freeAfter s a p
+  free-left zero e ne = absurd (ne refl)
+  free-left (suc n) e ne = ap (λ (m : ℕ). leaves m s (cleared s (a + p))) e
 
-module _ (s : List ℕ) (p : ℕ) (e : numberOf s (discard p) ≡ 0) where
-  pub discard-whole : sound s ≡ true
-  discard-whole = ready s (discard p) e .0
+  -- by an act that asks for it alone
+  module _ (c : Act) (e : usedNumber s a p ≡ numberOf s c) (v : numberOf s c ≡ 0 → refusal 0 ≡ answerTo s (on c))
+      (h : numberOf s c ≡ 0 → Holds (write (record { setup = setupOf s; tables = doneOn s c .tables })) (cleared s (a + p))) where
+    number-files : (n : ℕ) → n ≡ numberOf s c → Files s c n (leaves n s (cleared s (a + p)))
+    number-files zero q = (v (sym q), accepted-bytes s c (sym q) _ (h (sym q)))
+    number-files (suc n) q = refused-files s c (suc n) q (λ z. absurd (omega arith))
 
-  pub discard-place : p < 32
-  unfolding reasons
-  discard-place = used-below s 8 p (not-off _ (clear (noMail (tablesOf s) p) 4 _ (ready s (discard p) e .1) .0))
+    free-files : (n : ℕ) (b : List ℕ) → n ≡ usedNumber s a p → b ≡ freeAfter s a p → Files s c n b
+    free-files n b en eb =
+        subst (λ (m : ℕ). Files s c m b) (sym en)
+        (subst (λ (y : List ℕ). Files s c (usedNumber s a p) y) (sym eb) (number-files (usedNumber s a p) e))
 
-  pub discard-files : (b : List ℕ) → b ≡ post s (8 + p) 0 0 (rowBytes zeros) → Files s (discard p) 0 b
-  unfolding done
-  discard-files b eb = (
-    accepted-answer s (discard p) e,
-    eb ∙ accepted-bytes s (discard p) e _ (mail-put (setupOf s) (tablesOf s) s (decode-holds s discard-whole) p discard-place none),
-  )
+pub drop-files : (s : List ℕ) (p n : ℕ) (b : List ℕ) → n ≡ usedNumber s 40 p → b ≡ freeAfter s 40 p → Files s (drop p) n b
+unfolding reasons done
+drop-files s p =
+    free-files s 40 p (drop p) refl (accepted-answer s (drop p))
+    (λ e. let u = used-ready s 40 p e in slot-put (setupOf s) (tablesOf s) s (decode-holds s (u .0)) p (u .1) none)
+
+pub discard-files : (s : List ℕ) (p n : ℕ) (b : List ℕ) → n ≡ usedNumber s 8 p → b ≡ freeAfter s 8 p → Files s (discard p) n b
+unfolding reasons done
+discard-files s p =
+    free-files s 8 p (discard p) refl (accepted-answer s (discard p))
+    (λ e. let u = used-ready s 8 p e in mail-put (setupOf s) (tablesOf s) s (decode-holds s (u .0)) p (u .1) none)

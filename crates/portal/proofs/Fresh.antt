@@ -19,12 +19,12 @@ use Rattle.rules.specs.Model.{refusal, zeros, fresh}
 use Rattle.rules.specs.Calls.{start, call, freshBook}
 use Rattle.rules.specs.Replies.{rowByte, rowBytes}
 use Rattle.rules.proofs.Setups.{Ranged, ranged}
-use Rattle.book.specs.Layout.{Record, spot, headByte, mark0, mark1, recordByte, post}
+use Rattle.book.specs.Layout.{Record, spot, headByte, mark0, mark1, recordByte}
 use Rattle.book.specs.Codec.{recordOf, write, encode}
 use Rattle.book.specs.Answers.{admits, answerTo, bookAfter}
 use Rattle.book.proofs.Bytes.{record-bytes, layout-is}
 use Rattle.book.proofs.Posted.{post-length, post-head, post-other, post-A, post-B, post-row}
-use Rattle.portal.specs.Fresh.{freed}
+use Rattle.portal.specs.Fresh.{cleared, freed}
 
 pub zero-bytes : replicate 16 0 ≡ rowBytes zeros
 unfolding rowBytes rowByte tab
@@ -60,31 +60,28 @@ pub written-none : (b : List ℕ) → length b ≡ 1456 → Written (byte b) 0 b
 written-none b e = record { size = e; head = λ i l. refl; there = λ k c l m. absurd (omega arith) }
 
 module _ (b : List ℕ) (size : length b ≡ 1456) (n : ℕ) (l : n < 72) where
-  abbrev cleared : List ℕ
-  cleared = post b n 0 0 (rowBytes zeros)
-
   abbrev marked : List ℕ
-  marked = set cleared (16 + 20 * n) (mark0 n)
+  marked = set (cleared b n) (16 + 20 * n) (mark0 n)
 
-  cleared-length : length cleared ≡ 1456
+  cleared-length : length (cleared b n) ≡ 1456
   cleared-length = post-length b size n 0 0 l zeros
 
   marked-length : length marked ≡ 1456
-  marked-length = length-set cleared (16 + 20 * n) (mark0 n) ∙ cleared-length
+  marked-length = length-set (cleared b n) (16 + 20 * n) (mark0 n) ∙ cleared-length
 
   pub freed-length : length (freed b n) ≡ 1456
   freed-length = length-set marked (16 + 20 * n + 1) (mark1 n) ∙ marked-length
 
   -- a byte that is none of the mark
-  past-mark : (i : ℕ) → (i ≡ 16 + 20 * n → ⊥) → (i ≡ 16 + 20 * n + 1 → ⊥) → byte cleared i ≡ byte (freed b n) i
+  past-mark : (i : ℕ) → (i ≡ 16 + 20 * n → ⊥) → (i ≡ 16 + 20 * n + 1 → ⊥) → byte (cleared b n) i ≡ byte (freed b n) i
   past-mark i n0 n1 =
-      sym (getD-set-other marked (16 + 20 * n + 1) i (mark1 n) 0 n1 ∙ getD-set-other cleared (16 + 20 * n) i (mark0 n) 0 n0)
+      sym (getD-set-other marked (16 + 20 * n + 1) i (mark1 n) 0 n1 ∙ getD-set-other (cleared b n) (16 + 20 * n) i (mark0 n) 0 n0)
 
   freed-here : (c : ℕ) → c < 20 → recordByte n none c ≡ byte (freed b n) (spot n c)
   freed-here =
       record-bytes n none (λ c v. v ≡ byte (freed b n) (spot n c))
       (let e : 16 + 20 * n ≡ spot n 0 = omega arith in
-      sym (getD-set-same cleared (16 + 20 * n) (mark0 n) 0 (omega (arith, cleared-length)))
+      sym (getD-set-same (cleared b n) (16 + 20 * n) (mark0 n) 0 (omega (arith, cleared-length)))
       ∙ sym (getD-set-other marked (16 + 20 * n + 1) (16 + 20 * n) (mark1 n) 0 (omega arith)) ∙ ap (byte (freed b n)) e)
       (sym (getD-set-same marked (16 + 20 * n + 1) (mark1 n) 0 (omega (arith, marked-length))))
       (sym (post-A b size n 0 0 l zeros) ∙ past-mark (spot n 2) (omega arith) (omega arith))

@@ -2,4 +2,3 @@
 pub mod Fresh
 pub mod Acts
 pub mod Asked
-pub mod Once

@@ -1,2 +1,2 @@
--- A fresh record.
+-- Records that are freed.
 pub mod Fresh

@@ -1,7 +1,7 @@
 // The calls on a book: each answers what the rules say, on any bytes, and leaves every byte that they say.
 ghost use mathlib.Core.Path.{_≡_};
 ghost use mathlib.Core.Bool.{true};
-ghost use Prim.Native.Nat.{_<_};
+ghost use Prim.Native.Nat.{_<_, _≤_};
 ghost use lib.ListN.{length};
 ghost use Rattle.tools.specs.Lists.{tab, Filled};
 ghost use Rattle.rules.specs.Setups.{permits};
@@ -9,12 +9,14 @@ ghost use Rattle.rules.specs.Model;
 ghost use Rattle.rules.specs.Model.{refusal, zeros};
 ghost use Rattle.rules.specs.Calls;
 ghost use Rattle.rules.specs.Calls.{on, freshBook};
-ghost use Rattle.rules.specs.Replies.{rowBytes, stampedSays, postedSays, keptSays, toldSays, comparedSays, blank, Beside};
+ghost use Rattle.rules.specs.Replies.{rowBytes, stampedSays, postedSays, keptSays, toldSays, comparedSays, blank};
+ghost use Rattle.rules.specs.Replies.{Beside, BesidePost};
 ghost use Rattle.book.specs.Layout;
 ghost use Rattle.book.specs.Layout.{headByte};
 ghost use Rattle.book.specs.Codec.{encode};
 ghost use Rattle.book.specs.Answers.{answerTo, bookAfter, partOf, targetAfter};
-ghost use Rattle.portal.specs.Fresh.{freed};
+ghost use Rattle.refusals.specs.Held.{usedNumber};
+ghost use Rattle.portal.specs.Fresh.{cleared, freed, freeAfter};
 use rules::Compared;
 use rules::Kept;
 use rules::Posted;
@@ -55,22 +57,26 @@ fn refused(number: u8) -> Stamped
 fn clear(book: &mut [u8], k: usize)
     requires { ⌜ length (now book) ≡ 1456 ⌝ }
     requires { ⌜ k < 72 ⌝ }
-    ensures { λ _. ⌜ now (book .exit) ≡ Layout.post (now (book .entry)) k 0 0 (rowBytes zeros) ⌝ }
+    ensures { λ _. ⌜ now (book .exit) ≡ cleared (now (book .entry)) k ⌝ }
 {
     parts::post(book, k, FREE, FILLER, [0u8; 16]);
 }
 
 // All four events mark the seat started and answer a stamp.
-fn take_row(book: &mut [u8], desk: usize, row: [u8; 16]) -> Stamp
+fn take_row(book: &mut [u8], desk: usize, row: [u8; 16]) -> Stamped
     requires { ⌜ length (now book) ≡ 1456 ⌝ }
     requires { ⌜ desk < 8 ⌝ }
-    ensures { λ r. ⌜ r ≡ record { owner = desk; row = row } ⌝ }
+    ensures { λ r. ⌜ r ≡ record { number = 0; stamp = record { owner = desk; row = row } } ⌝ }
     ensures { λ _. ⌜ now (book .exit) ≡ Layout.post (now (book .entry)) desk 1 0 row ⌝ }
 {
     parts::post(book, desk, STARTED, FILLER, row);
-    Stamp {
+    let stamp = Stamp {
         owner: desk as u8,
         row: row,
+    };
+    Stamped {
+        number: rules::DONE,
+        stamp: stamp,
     }
 }
 
@@ -161,17 +167,13 @@ pub fn local(book: &mut [u8], desk: usize) -> Stamped
         return refused(n);
     }
     let row = rows::grown_row(&book[..], desk);
-    let stamp = take_row(book, desk, row);
-    Stamped {
-        number: rules::DONE,
-        stamp: stamp,
-    }
+    take_row(book, desk, row)
 }
 
 // Send from a desk to another: as local, then the row goes into the lowest free mail place.
 pub fn send(book: &mut [u8], desk: usize, to: usize) -> Sent
     ensures { λ r. ⌜ postedSays (r .place) (r .stamp) ≡ answerTo (now (book .entry)) (on (Model.send desk to)) ⌝ }
-    ensures { λ r. ⌜ Beside (answerTo (now (book .entry)) (on (Model.send desk to)) .number) (r .stamp) ⌝ }
+    ensures { λ r. ⌜ BesidePost (r .place) (r .stamp) ⌝ }
     ensures { λ _. ⌜ now (book .exit) ≡ bookAfter (now (book .entry)) (on (Model.send desk to)) ⌝ }
 {
     let n = refusals::send_number(&book[..], desk, to);
@@ -185,7 +187,8 @@ pub fn send(book: &mut [u8], desk: usize, to: usize) -> Sent
     let p = refusals::free_from(&book[..], rows::MAIL);
     let row = rows::grown_row(&book[..], desk);
     parts::post(book, rows::MAIL + p, (desk + 1) as u8, (to + 1) as u8, row);
-    let stamp = take_row(book, desk, row);
+    let stamped = take_row(book, desk, row);
+    let stamp = stamped.stamp;
     Sent {
         place: Posted::At(p as u8),
         stamp: stamp,
@@ -205,11 +208,7 @@ pub fn receive(book: &mut [u8], desk: usize, place: usize) -> Stamped
     let row = rows::merged_row(&book[..], desk, place);
     let from = rows::MAIL + place;
     clear(book, from);
-    let stamp = take_row(book, desk, row);
-    Stamped {
-        number: rules::DONE,
-        stamp: stamp,
-    }
+    take_row(book, desk, row)
 }
 
 // Reset at a desk: its own phase grows by 1 modulo P and its own clock becomes 0. No other seat changes.
@@ -223,11 +222,7 @@ pub fn reset(book: &mut [u8], desk: usize) -> Stamped
         return refused(n);
     }
     let row = rows::turned_row(&book[..], desk);
-    let stamp = take_row(book, desk, row);
-    Stamped {
-        number: rules::DONE,
-        stamp: stamp,
-    }
+    take_row(book, desk, row)
 }
 
 // Keep at a desk copies its present row to the lowest free slot.
@@ -245,17 +240,26 @@ pub fn keep(book: &mut [u8], desk: usize) -> Kept
     Kept::Slot(s as u8)
 }
 
+// A used place or slot is freed; a is the record of the first.
+fn free(book: &mut [u8], a: usize, p: usize) -> u8
+    requires { ⌜ a ≤ 40 ⌝ }
+    ensures { λ r. ⌜ r ≡ usedNumber (now (book .entry)) a p ⌝ }
+    ensures { λ _. ⌜ now (book .exit) ≡ freeAfter (now (book .entry)) a p ⌝ }
+{
+    let n = refusals::used_number(&book[..], a, p);
+    if n != rules::DONE {
+        return n;
+    }
+    clear(book, a + p);
+    rules::DONE
+}
+
 // Drop frees a slot.
 pub fn drop(book: &mut [u8], slot: usize) -> u8
     ensures { λ r. ⌜ refusal r ≡ answerTo (now (book .entry)) (on (Model.drop slot)) ⌝ }
     ensures { λ _. ⌜ now (book .exit) ≡ bookAfter (now (book .entry)) (on (Model.drop slot)) ⌝ }
 {
-    let n = refusals::drop_number(&book[..], slot);
-    if n != rules::DONE {
-        return n;
-    }
-    clear(book, rows::SHELF + slot);
-    rules::DONE
+    free(book, rows::SHELF, slot)
 }
 
 // Discard frees a mail place.
@@ -263,19 +267,14 @@ pub fn discard(book: &mut [u8], place: usize) -> u8
     ensures { λ r. ⌜ refusal r ≡ answerTo (now (book .entry)) (on (Model.discard place)) ⌝ }
     ensures { λ _. ⌜ now (book .exit) ≡ bookAfter (now (book .entry)) (on (Model.discard place)) ⌝ }
 {
-    let n = refusals::discard_number(&book[..], place);
-    if n != rules::DONE {
-        return n;
-    }
-    clear(book, rows::MAIL + place);
-    rules::DONE
+    free(book, rows::MAIL, place)
 }
 
 // Before, of the stamps in two slots.
 pub fn before(book: &[u8], first: usize, second: usize) -> Told
     ensures { λ r. ⌜ toldSays r ≡ answerTo (now (book .entry)) (on (Model.before first second)) ⌝ }
 {
-    let n = asking::before_number(book, first, second);
+    let n = asking::reach_number(book, first, second, false);
     if n != rules::DONE {
         return Told::Refused(n);
     }
@@ -289,7 +288,7 @@ pub fn before(book: &[u8], first: usize, second: usize) -> Told
 pub fn compare(book: &[u8], first: usize, second: usize) -> Compared
     ensures { λ r. ⌜ comparedSays r ≡ answerTo (now (book .entry)) (on (Model.compare first second)) ⌝ }
 {
-    let n = asking::compare_number(book, first, second);
+    let n = asking::reach_number(book, first, second, true);
     if n != rules::DONE {
         return Compared::Refused(n);
     }

@@ -9,7 +9,7 @@ ghost use Rattle.rules.specs.Model.{noDesk, atLimit, toIn};
 ghost use Rattle.book.specs.Layout.{setupOf};
 ghost use Rattle.book.specs.Numbers.{tablesOf, numberOf};
 ghost use Rattle.rows.specs.Rows.{AtDesk};
-ghost use Rattle.refusals.specs.Held.{usedAt, freeFrom, lagIn, lagsAt, behindFrom, seatLagsAt, seatsBehind};
+ghost use Rattle.refusals.specs.Held.{usedAt, usedNumber, freeFrom, lagIn, lagsAt, behindFrom, seatLagsAt, seatsBehind};
 
 // Mail places and shelf slots, each.
 pub const PLACES: usize = 32;
@@ -259,27 +259,15 @@ pub fn keep_number(book: &[u8], desk: usize) -> u8
     rules::DONE
 }
 
-// Drop: BadBook, NoPlace or 0.
-pub fn drop_number(book: &[u8], slot: usize) -> u8
-    ensures { λ r. ⌜ r ≡ numberOf (now (book .entry)) (Model.drop slot) ⌝ }
+// Drop and discard: BadBook, NoPlace or 0; a is the record of the first slot or place.
+pub fn used_number(book: &[u8], a: usize, p: usize) -> u8
+    requires { ⌜ a ≤ 40 ⌝ }
+    ensures { λ r. ⌜ r ≡ usedNumber (now (book .entry)) a p ⌝ }
 {
     if !soundness::sound(book) {
         return rules::BAD_BOOK;
     }
-    if !is_used(book, rows::SHELF, slot) {
-        return rules::NO_PLACE;
-    }
-    rules::DONE
-}
-
-// Discard: BadBook, NoPlace or 0.
-pub fn discard_number(book: &[u8], place: usize) -> u8
-    ensures { λ r. ⌜ r ≡ numberOf (now (book .entry)) (Model.discard place) ⌝ }
-{
-    if !soundness::sound(book) {
-        return rules::BAD_BOOK;
-    }
-    if !is_used(book, rows::MAIL, place) {
+    if !is_used(book, a, p) {
         return rules::NO_PLACE;
     }
     rules::DONE

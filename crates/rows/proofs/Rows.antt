@@ -17,8 +17,8 @@ use Rattle.rules.specs.Replies.{rowByte, rowBytes}
 use Rattle.book.specs.Layout.{setupOf, rowAt}
 use Rattle.book.specs.Sound.{sound}
 use Rattle.book.specs.Numbers.{tablesOf}
-use Rattle.book.proofs.Bytes.{row-phase, row-clock}
-use Rattle.book.proofs.Rows.{rows-alike, set-pair}
+use Rattle.rules.proofs.RowBytes.{row-phase, row-clock, rows-alike}
+use Rattle.book.proofs.Rows.{set-pair}
 use Rattle.book.proofs.Told.{seat-row, read-at, own-at, few-desks, room}
 use Rattle.book.proofs.Soundness.{sound-size}
 use Rattle.book.proofs.Below.{mail-row}

@@ -9,6 +9,7 @@
 --   toldSays        what the answer to before says
 --   comparedSays    what the answer to compare says
 --   Beside n s      the stamp s beside the number n: blank where n is a refusal
+--   BesidePost p s  the stamp s beside the answer p to send: blank where it is a refusal
 use mathlib.Core.Path.{_≡_}
 use mathlib.Core.Bool.{true, false}
 use mathlib.Core.List.{List}
@@ -65,3 +66,7 @@ blank = record { owner = 0; row = replicate 16 0 }
 abbrev pub Beside : ℕ → Stamp → Type 0
 Beside zero s = Unit {0}
 Beside (suc n) s = s ≡ blank
+
+abbrev pub BesidePost : Posted → Stamp → Type 0
+BesidePost (Posts.At p) s = Unit {0}
+BesidePost (Posts.Refused n) s = s ≡ blank

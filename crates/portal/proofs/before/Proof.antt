@@ -8,11 +8,11 @@ use borrow.Author.Needs.{needs}
 use Rattle.portal.proofs.before.Statement.{statement}
 use Rattle.portal.proofs.before.Tie as tie
 
-before-number-requires : tie.Need-before-number-requires
-before-number-requires c κs = search needs
+reach-number-requires : tie.Need-reach-number-requires
+reach-number-requires c κs = search needs
 
 returns : tie.Need-returns
-returns c = refused-answer _ _ _ (c .before .before-number .ensures) (c .if1 .taken)
+returns c = refused-answer _ _ _ (c .before .reach-number .ensures) (c .if1 .taken)
 
 is-before-requires : tie.Need-is-before-requires
 is-before-requires c κs = search needs
@@ -25,4 +25,4 @@ returns-3 c = ap (λ (t : Bool). accepted (says t)) (sym (c .if2 .left)) ∙ c .
 
 pub before-spec : {M : Type 1} → statement M
 before-spec =
-    tie.close (tie.spec before-number-requires returns is-before-requires returns-2 returns-3)
+    tie.close (tie.spec reach-number-requires returns is-before-requires returns-2 returns-3)

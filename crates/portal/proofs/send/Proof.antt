@@ -1,9 +1,10 @@
 -- `portal::send` meets its contract.
 -- Assumes nothing.
-use mathlib.Core.Path.{_≡_, sym, _∙_}
+use mathlib.Core.Path.{_≡_, sym, ap, _∙_}
 use Prim.Native.Nat.{_<_}
 use native.Mathlib.Omega.{arith}
 use Rattle.book.specs.Numbers.{numberOf}
+use Rattle.rules.specs.declared.Stamped.{Stamped}
 use Rattle.rules.specs.Model.{send}
 use Rattle.rows.specs.Rows.{Grows}
 use Rattle.portal.proofs.Acts.{refused-sends, send-grows, send-place, send-to, send-sends}
@@ -63,14 +64,20 @@ post-requires c κs = (may (c .before .before .before .before .before) .at .size
 take-row-requires : tie.Need-take-row-requires
 take-row-requires c κs = let g = c .before .before .before .before .before .before .before .before .before in (c .before .before .before .post .kept .0 ∙ may g .at .size, may g .at .eight)
 
-cast-t22 : tie.Need-cast-t22
-cast-t22 c = omega (arith, place (c .before .before .before .before .before .before .before .before .before .before))
+cast-t23 : tie.Need-cast-t23
+cast-t23 c = omega (arith, place (c .before .before .before .before .before .before .before .before .before .before .before))
 
 same-length-2 : tie.Need-same-length-2
 same-length-2 c = search needs
 
 returns-2 : tie.Need-returns-2
-returns-2 c = let t = c .before .before .take-row .ensures in let m = c .before .before .before .before .before .before in let g = m .before .before .before .before .before .before in let x = g .before .before .before .before .args in send-sends (x .book .now) (x .desk) (x .to) (done g) _ _ _ _ _ (m .before .before .before .before .free-from .ensures) (t .0) (m .before .before .grown-row .ensures) (m .post .ensures) (t .1)
+returns-2 c =
+    let t = c .before .before .before .take-row .ensures in
+    let m = c .before .before .before .before .before .before .before in
+    let g = m .before .before .before .before .before .before in
+    let x = g .before .before .before .before .args in
+    send-sends (x .book .now) (x .desk) (x .to) (done g) _ _ _ _ _ (m .before .before .before .before .free-from .ensures)
+    (ap (λ (y : Stamped). y .stamp) (t .0)) (m .before .before .grown-row .ensures) (m .post .ensures) (t .1)
 
 pub send-spec : {M : Type 1} → statement M
 send-spec =
@@ -89,6 +96,6 @@ send-spec =
     cast-post-2
     post-requires
     take-row-requires
-    cast-t22
+    cast-t23
     same-length-2
     returns-2)

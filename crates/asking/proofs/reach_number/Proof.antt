@@ -1,36 +1,44 @@
--- `asking::compare_number` meets its contract.
+-- `asking::reach_number` meets its contract.
 -- Assumes nothing.
 use mathlib.Core.Path.{_≡_, sym, _∙_}
-use mathlib.Core.Bool.{Bool, true, false, _||_}
+use mathlib.Core.Bool.{Bool, true, false, _&&_, _||_}
 use Rattle.tools.specs.Tests.{pick}
 use Rattle.rules.specs.Numbers.{OutOfReach, number}
-use Rattle.rules.specs.Model.{compare}
+use Rattle.rules.specs.Model.{Act, before, compare}
 use Rattle.book.specs.Numbers.{numberOf}
 use Rattle.book.proofs.Soundness.{sound-size}
 use Rattle.asking.proofs.Slots.{reach-bytes, reach-told}
-use Rattle.asking.proofs.Accepted.{Two, slots-two, compare-due, compare-number}
+use Rattle.asking.proofs.Accepted.{Two, slots-two, reach-due, reach-number}
 use borrow.Author.Needs.{needs}
-use Rattle.asking.proofs.compare_number.Statement.{statement}
-use Rattle.asking.proofs.compare_number.Tie as tie
+use Rattle.asking.proofs.reach_number.Statement.{statement}
+use Rattle.asking.proofs.reach_number.Tie as tie
 
 slots-number-requires : tie.Need-slots-number-requires
 slots-number-requires c κs = search needs
 
 returns : tie.Need-returns
-returns c = let a = c .before .before .before .args in let n = c .before .slots-number in compare-due (a .book .now) (a .first) (a .second) (n .result) (n .ensures) (c .if1 .taken)
+returns c = let a = c .before .before .before .args in let n = c .before .slots-number in reach-due (a .book .now) (a .first) (a .second) (n .result) (n .ensures) (c .if1 .taken) (a .both)
 
 -- both slots are used
 used : (c : tie.Else1) → Two (c .before .before .before .args .book .now) (c .before .before .before .args .first) (c .before .before .before .args .second)
 used c = let a = c .before .before .before .args in slots-two (a .book .now) (a .first) (a .second) (sym (c .before .slots-number .ensures) ∙ c .if1 .left)
 
-reached : (c : tie.After-out-of-reach2) (o : Bool) → (c .before .before .out-of-reach .result || c .out-of-reach2 .result) ≡ o
-    → pick o (number OutOfReach) 0 ≡ numberOf (c .before .before .before .before .before .before .before .before .args .book .now) (compare (c .before .before .before .before .before .before .before .before .args .first) (c .before .before .before .before .before .before .before .before .args .second))
+-- what was asked
+abbrev asked : tie.After-out-of-reach2 → Act
+asked c =
+    let a = c .before .before .before .before .before .before .before .before .args in
+    pick (a .both) (compare (a .first) (a .second)) (before (a .first) (a .second))
+
+reached : (c : tie.After-out-of-reach2) (o : Bool)
+    → (c .before .before .out-of-reach .result || (c .before .before .before .before .before .before .before .before .args .both && c .out-of-reach2 .result)) ≡ o
+    → pick o (number OutOfReach) 0 ≡ numberOf (c .before .before .before .before .before .before .before .before .args .book .now) (asked c)
 reached c o e =
     let a = c .before .before .before .before .before .before .before .before .args in
     let s = c .before .before .before .before .setup-of .ensures in
     let there = reach-told (a .book .now) _ s (a .first) (a .second) _ (c .before .before .before .way-of .ensures) _ (c .before .before .out-of-reach .ensures) in
     let back = reach-told (a .book .now) _ s (a .second) (a .first) _ (c .before .way-of2 .ensures) _ (c .out-of-reach2 .ensures) in
-    compare-number (a .book .now) (a .first) (a .second) (used (c .before .before .before .before .before)) o ((λ x. there x || back x) ∙ e)
+    reach-number (a .book .now) (a .first) (a .second) (used (c .before .before .before .before .before)) o (a .both)
+    ((λ x. there x || (a .both && back x)) ∙ e)
 
 setup-of-requires : tie.Need-setup-of-requires
 setup-of-requires c κs = sound-size _ (used c .whole)
@@ -53,8 +61,8 @@ returns-2 c = reached (c .before) true (c .if2 .taken)
 returns-3 : tie.Need-returns-3
 returns-3 c = reached (c .before) false (c .if2 .left)
 
-pub compare-number-spec : {M : Type 1} → statement M
-compare-number-spec =
+pub reach-number-spec : {M : Type 1} → statement M
+reach-number-spec =
     tie.close
     (tie.spec
     slots-number-requires

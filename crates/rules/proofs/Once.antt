@@ -1,30 +1,26 @@
 -- Two answers that meet the statement of a call are equal.
 -- Assumes nothing.
 use Prim.Native.Nat.{ℕ, zero, suc}
-use mathlib.Core.Path.{_≡_, refl, sym, ap, _∙_, subst}
-use mathlib.Core.List.{List}
+use mathlib.Core.Path.{_≡_, refl, sym, ap, _∙_}
 use native.Mathlib.Omega.{arith}
 use borrow.Author.Tests.{ne-eqb}
 use lib.Dec.{eqb}
 use lib.ListN.{length}
 use Rattle.tools.specs.Tests.{pick}
 use Rattle.rules.specs.declared.Stamp.{Stamp}
 use Rattle.rules.specs.declared.Stamped.{Stamped}
 use Rattle.rules.specs.declared.Sent.{Sent}
 use Rattle.rules.specs.declared.Posted.{Posted}
 use Rattle.rules.specs.declared.Posted.the-variants as Posts
 use Rattle.rules.specs.declared.Kept.{Kept}
 use Rattle.rules.specs.declared.Kept.the-variants as Keeps
 use Rattle.rules.specs.declared.Told.{Told}
 use Rattle.rules.specs.declared.Told.the-variants as Tells
 use Rattle.rules.specs.declared.Compared.{Compared}
 use Rattle.rules.specs.declared.Compared.the-variants as Compares
-use Rattle.rules.specs.Model.{send, stamp, Value, Answer, refusal, accepted, done}
-use Rattle.rules.specs.Calls.{on}
-use Rattle.rules.specs.Replies.{rowBytes, rowOf, stampedSays, postedSays, keptSays, toldSays, comparedSays, blank, Beside}
-use Rattle.book.specs.Answers.{answerTo}
-use Rattle.book.proofs.Numbers.{answer-number, accepted-answer}
-use Rattle.book.proofs.Stamped.{bytes-of-row}
+use Rattle.rules.specs.Model.{Value, stamp, Answer, refusal, accepted}
+use Rattle.rules.specs.Replies.{rowOf, stampedSays, postedSays, keptSays, toldSays, comparedSays, Beside, BesidePost}
+use Rattle.rules.proofs.RowBytes.{row-once}
 
 same-value : (a b : Answer) → a ≡ b → a .value ≡ b .value
 same-value a b e = ap (λ (a : Answer). a .value) e
@@ -60,9 +56,6 @@ compared-once (Compares.Refused n) (Compares.Is x) e = let v = same-value _ _ e 
 compared-once (Compares.Refused n) (Compares.Refused n′) e = let n = number-once _ _ e in cc
 
 -- a stamp, of sixteen row bytes
-row-once : (l l′ : List ℕ) → length l ≡ 16 → length l′ ≡ 16 → rowOf l ≡ rowOf l′ → l ≡ l′
-row-once l l′ n n′ e = sym (bytes-of-row l n) ∙ ap rowBytes e ∙ bytes-of-row l′ n′
-
 stamp-once : (x x′ : Stamp) → length (x .row) ≡ 16 → length (x′ .row) ≡ 16 → x .owner ≡ x′ .owner → rowOf (x .row) ≡ rowOf (x′ .row) → x ≡ x′
 stamp-once x x′ n n′ o e = let r = row-once (x .row) (x′ .row) n n′ e in λ i. record { owner = o i; row = r i }
 
@@ -94,43 +87,25 @@ stamped-once r r′ e b b′ l l′ =
         let q = b ∙ sym b′ in
         λ i. record { number = m i; stamp = q i }
 
--- send: an accepted one has a place
-module _ (s : List ℕ) (j k : ℕ) where
-  placed : refusal 0 ≡ answerTo s (on (send j k)) → ⊥
-  unfolding done
-  placed e =
-      let n = sym (answer-number s (send j k)) ∙ ap (λ (a : Answer). a .number) (sym e) in
-      let v = same-value _ _ (e ∙ sym (accepted-answer s (send j k) n)) in
-      let z : _≡_ {A = ℕ} 0 1 = cc in
-      omega arith
-
-  -- what one answer to a send says
-  pub record Says (r : Sent) : Type 0 where
-    pub place : postedSays (r .place) (r .stamp) ≡ answerTo s (on (send j k))
-    pub beside : Beside (answerTo s (on (send j k)) .number) (r .stamp)
-    pub size : length (r .stamp .row) ≡ 16
-
-  blank-refused : (n : ℕ) (x : Stamp) → refusal n ≡ answerTo s (on (send j k)) → Beside (answerTo s (on (send j k)) .number) x → x ≡ blank
-  blank-refused zero x e b = absurd (placed e)
-  blank-refused (suc n) x e b = subst (λ (a : Answer). Beside (a .number) x) (sym e) b
-
-  pub sent-once : (r r′ : Sent) → Says r → Says r′ → r ≡ r′
-  sent-once r r′ q q′ =
-      go (r .place) (r .stamp) (r′ .place) (r′ .stamp) (q .place) (q′ .place) (q .beside) (q′ .beside) (q .size) (q′ .size)
-    where
-      go : (p : Posted) (x : Stamp) (p′ : Posted) (x′ : Stamp) → postedSays p x ≡ answerTo s (on (send j k)) → postedSays p′ x′ ≡ answerTo s (on (send j k))
-          → Beside (answerTo s (on (send j k)) .number) x → Beside (answerTo s (on (send j k)) .number) x′
-          → length (x .row) ≡ 16 → length (x′ .row) ≡ 16
-          → _≡_ {A = Sent} (record { place = p; stamp = x }) (record { place = p′; stamp = x′ })
-      go (Posts.At p) x (Posts.At p′) x′ e e′ b b′ l l′ =
-          let v = same-value _ _ (e ∙ sym e′) in
-          let m : p ≡ p′ = cc in
-          let o : x .owner ≡ x′ .owner = cc in
-          let t = stamp-once x x′ l l′ o (let z : rowOf (x .row) ≡ rowOf (x′ .row) = cc in z) in
-          λ i. record { place = Posts.At (m i); stamp = t i }
-      go (Posts.At p) x (Posts.Refused n) x′ e e′ b b′ l l′ = let v = same-value _ _ (e ∙ sym e′) in cc
-      go (Posts.Refused n) x (Posts.At p) x′ e e′ b b′ l l′ = let v = same-value _ _ (e ∙ sym e′) in cc
-      go (Posts.Refused n) x (Posts.Refused n′) x′ e e′ b b′ l l′ =
-          let m = number-once n n′ (e ∙ sym e′) in
-          let t = blank-refused n x e b ∙ sym (blank-refused n′ x′ e′ b′) in
-          λ i. record { place = Posts.Refused (m i); stamp = t i }
+-- send
+pub sent-once : (r r′ : Sent) → postedSays (r .place) (r .stamp) ≡ postedSays (r′ .place) (r′ .stamp)
+    → BesidePost (r .place) (r .stamp) → BesidePost (r′ .place) (r′ .stamp)
+    → length (r .stamp .row) ≡ 16 → length (r′ .stamp .row) ≡ 16 → r ≡ r′
+sent-once r r′ e b b′ l l′ = go (r .place) (r .stamp) (r′ .place) (r′ .stamp) e b b′ l l′
+  where
+    go : (p : Posted) (x : Stamp) (p′ : Posted) (x′ : Stamp) → postedSays p x ≡ postedSays p′ x′ → BesidePost p x → BesidePost p′ x′
+        → length (x .row) ≡ 16 → length (x′ .row) ≡ 16
+        → _≡_ {A = Sent} (record { place = p; stamp = x }) (record { place = p′; stamp = x′ })
+    go (Posts.At p) x (Posts.At p′) x′ e b b′ l l′ =
+        let v = same-value _ _ e in
+        let m : p ≡ p′ = cc in
+        let o : x .owner ≡ x′ .owner = cc in
+        let q : rowOf (x .row) ≡ rowOf (x′ .row) = cc in
+        let t = stamp-once x x′ l l′ o q in
+        λ i. record { place = Posts.At (m i); stamp = t i }
+    go (Posts.At p) x (Posts.Refused n) x′ e b b′ l l′ = let v = same-value _ _ e in cc
+    go (Posts.Refused n) x (Posts.At p) x′ e b b′ l l′ = let v = same-value _ _ e in cc
+    go (Posts.Refused n) x (Posts.Refused n′) x′ e b b′ l l′ =
+        let m = number-once n n′ e in
+        let t = b ∙ sym b′ in
+        λ i. record { place = Posts.Refused (m i); stamp = t i }
