@@ -51,6 +51,7 @@ use Rattle.rules.proofs.RowBytes.{rows-alike, row-of-bytes}
 use Rattle.book.proofs.Rows.{row-bytes-at}
 use Rattle.book.proofs.Told.{read-at}
 use Rattle.book.proofs.Numbers.{ready, accepted-answer}
+use Rattle.refusals.proofs.First.{asked-due, asked-clear}
 use Rattle.comparing.specs.declared.Way.{Way}
 use Rattle.comparing.specs.Ways.{gapOf, Clocked}
 use Rattle.comparing.proofs.Ways.{before-is, relation-is}
@@ -91,21 +92,11 @@ module _ (s : List ℕ) (i k : ℕ) where
   slots-number h t n = sym (λ x. pick (h x) (pick (n x) 5 0) 1)
 
   pub slots-two : slotsNumber s i k ≡ 0 → Two s i k
-  slots-two e = go (sound s) missing refl refl e
-    where
-      go : (t u : Bool) → sound s ≡ t → missing ≡ u → pick t (pick u (number NoPlace) 0) 1 ≡ 0 → Two s i k
-      go true true h n z = absurd (omega arith)
-      go true false h n z = two h n
-      go false u h n z = absurd (omega arith)
+  slots-two e = let q = asked-clear s missing 4 e in two (q .0) (q .1)
 
   -- is due for every act that asks for them first
   due : (n : ℕ) → n ≡ slotsNumber s i k → (n ≡ 0 → ⊥) → (r : ℕ) → n ≡ pick (sound s) (pick missing 5 r) 1
-  due n e ne r = go (sound s) missing e
-    where
-      go : (t u : Bool) → n ≡ pick t (pick u 5 0) 1 → n ≡ pick t (pick u 5 r) 1
-      go true true z = z
-      go true false z = absurd (ne z)
-      go false u z = z
+  due = asked-due s missing 5
 
   module _ (n : ℕ) (e : n ≡ slotsNumber s i k) (ne : n ≡ 0 → ⊥) where
     pub reach-due : (both : Bool) → n ≡ numberOf s (pick both (compare i k) (before i k))

@@ -6,14 +6,13 @@
 use Prim.Native.Nat.{ℕ}
 use mathlib.Core.Bool.{_||_}
 use mathlib.Core.List.{List}
-use Rattle.tools.specs.Tests.{pick}
-use Rattle.rules.specs.Numbers.{BadBook, NoPlace, number}
+use Rattle.rules.specs.Numbers.{NoPlace, number}
 use Rattle.rules.specs.Model.{write, byIn, rowIn, noSlot, gapFrom}
 use Rattle.rules.specs.Calls.{on, ringOf}
 use Rattle.book.specs.Layout.{setupOf}
-use Rattle.book.specs.Sound.{sound}
 use Rattle.book.specs.Answers.{answerTo, recordIn}
 use Rattle.book.specs.Numbers.{tablesOf}
+use Rattle.refusals.specs.First.{asked}
 use Rattle.comparing.specs.declared.Way.{Way}
 use Rattle.comparing.specs.Ways.{WayOf}
 
@@ -23,7 +22,7 @@ WayBetween s i k w =
     (rowIn (tablesOf s .shelf i)) (rowIn (tablesOf s .shelf k)) w
 
 abbrev pub slotsNumber : List ℕ → ℕ → ℕ → ℕ
-slotsNumber s i k = pick (sound s) (pick (noSlot (tablesOf s) i || noSlot (tablesOf s) k) (number NoPlace) 0) (number BadBook)
+slotsNumber s i k = asked s (noSlot (tablesOf s) i || noSlot (tablesOf s) k) (number NoPlace)
 
 abbrev pub recordFor : List ℕ → ℕ → ℕ → List ℕ
 recordFor s k room = recordIn (setupOf s .desks) (answerTo s (on (write k room)) .value)

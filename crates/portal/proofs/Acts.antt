@@ -2,16 +2,14 @@
 -- Assumes nothing.
 use Prim.Native.Nat.{ℕ, zero, suc, _+_, _<_}
 use mathlib.Core.Path.{_≡_, refl, sym, ap, _∙_, subst}
-use mathlib.Core.Bool.{Bool, true, false, not}
+use mathlib.Core.Bool.{true, not}
 use mathlib.Core.Option.{Option, none, some}
 use mathlib.Core.List.{List}
 use native.Mathlib.Omega.{arith}
 use borrow.Author.Tests.{ne-eqb}
-use Rattle.tools.specs.Tests.{pick}
 use Rattle.tools.specs.Tables.{put}
 use Rattle.tools.specs.Lists.{byte}
 use Rattle.tools.proofs.Tests.{not-off}
-use Rattle.tools.proofs.Reasons.{clear}
 use Rattle.ring.specs.Phases.{Pair}
 use Rattle.rules.specs.declared.Stamp.{Stamp}
 use Rattle.rules.specs.declared.Stamped.{Stamped}
@@ -19,7 +17,6 @@ use Rattle.rules.specs.declared.Posted.{Posted}
 use Rattle.rules.specs.declared.Posted.the-variants as Posts
 use Rattle.rules.specs.declared.Kept.{Kept}
 use Rattle.rules.specs.declared.Kept.the-variants as Keeps
-use Rattle.rules.specs.Numbers.{BadBook, NoPlace, number}
 use Rattle.rules.specs.Model.{Row, Held, Tables, Act, local, send, receive, reset, keep, drop, discard, Value, stamp, refusal, accepted, Result, reasons, done, own, event, freeMail, freeSlot, used, sent, slot}
 use Rattle.rules.specs.Calls.{on, ringOf}
 use Rattle.rules.specs.Replies.{rowBytes, rowOf, stampedSays, postedSays, keptSays, blank, Beside, BesidePost}
@@ -37,8 +34,10 @@ use Rattle.book.proofs.Stamped.{seat-put-eight, merged-eight}
 use Rattle.book.proofs.Told.{seat-row, read-at, few-desks}
 use Rattle.rows.specs.Rows.{AtDesk, Grows, grownRow, turnedRow, mergedRow}
 use Rattle.rows.proofs.Rows.{at-desk, grows}
-use Rattle.refusals.specs.Held.{usedAt, usedNumber}
+use Rattle.refusals.specs.Held.{usedAt}
+use Rattle.refusals.specs.First.{usedNumber}
 use Rattle.refusals.proofs.Held.{used-below}
+use Rattle.refusals.proofs.First.{asked-clear}
 use Rattle.portal.specs.Fresh.{cleared, freeAfter}
 
 -- the number n alone, and the bytes b
@@ -230,12 +229,7 @@ module _ (s : List ℕ) (j : ℕ) (e : numberOf s (keep j) ≡ 0) where
 -- a used place or slot is freed
 module _ (s : List ℕ) (a p : ℕ) where
   pub used-ready : usedNumber s a p ≡ 0 → (sound s ≡ true) × (p < 32)
-  used-ready = go (sound s) refl
-    where
-      go : (t : Bool) → sound s ≡ t → pick t (pick (not (usedAt s a p)) (number NoPlace) 0) (number BadBook) ≡ 0
-          → (sound s ≡ true) × (p < 32)
-      go true h e = (h, used-below s a p (not-off _ (clear (not (usedAt s a p)) 4 0 e .0)))
-      go false h e = absurd (omega arith)
+  used-ready e = let q = asked-clear s (not (usedAt s a p)) 4 e in (q .0, used-below s a p (not-off _ (q .1)))
 
   pub free-done : usedNumber s a p ≡ 0 → (b : List ℕ) → b ≡ cleared s (a + p) → b ≡ freeAfter s a p
   free-done e b eb = eb ∙ ap (λ (n : ℕ). leaves n s (cleared s (a + p))) (sym e)

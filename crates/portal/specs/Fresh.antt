@@ -11,7 +11,7 @@ use Rattle.rules.specs.Model.{zeros}
 use Rattle.rules.specs.Replies.{rowBytes}
 use Rattle.book.specs.Layout.{mark0, mark1, post}
 use Rattle.book.specs.Answers.{leaves}
-use Rattle.refusals.specs.Held.{usedNumber}
+use Rattle.refusals.specs.First.{usedNumber}
 
 abbrev pub cleared : List ℕ → ℕ → List ℕ
 cleared s k = post s k 0 0 (rowBytes zeros)

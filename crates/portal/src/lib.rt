@@ -15,7 +15,7 @@ ghost use Rattle.book.specs.Layout;
 ghost use Rattle.book.specs.Layout.{headByte};
 ghost use Rattle.book.specs.Codec.{encode};
 ghost use Rattle.book.specs.Answers.{answerTo, bookAfter, partOf, targetAfter};
-ghost use Rattle.refusals.specs.Held.{usedNumber};
+ghost use Rattle.refusals.specs.First.{usedNumber};
 ghost use Rattle.portal.specs.Fresh.{cleared, freed, freeAfter};
 use rules::Compared;
 use rules::Kept;

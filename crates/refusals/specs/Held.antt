@@ -2,7 +2,6 @@
 -- Assumes nothing.
 --   heldAt s a p     what the p-th of the records from record a on holds; the mail is at 8, the shelf at 40
 --   usedAt s a p     it is one of the 32, and used
---   usedNumber s a p the number that is due where it is to be freed: BadBook, NoPlace, or 0
 --   freeFrom s a     the lowest free one, 32 where there is none
 --   lagIn s j k      how far the entry for desk j in record k lags
 --   lagsAt s j B a p it is used and its entry for desk j lags just B
@@ -16,11 +15,9 @@ use mathlib.Core.List.{List}
 use lib.Dec.{ltb}
 use Rattle.tools.specs.Tests.{pick, any, lowest}
 use Rattle.ring.specs.Phases.{lagOf}
-use Rattle.rules.specs.Numbers.{BadBook, NoPlace, number}
 use Rattle.rules.specs.Model.{Held, used, lags, seatLags}
 use Rattle.rules.specs.Calls.{ringOf}
 use Rattle.book.specs.Layout.{fields, setupOf, rowAt}
-use Rattle.book.specs.Sound.{sound}
 use Rattle.book.specs.Codec.{readHeld}
 use Rattle.book.specs.Numbers.{tablesOf}
 
@@ -29,9 +26,6 @@ heldAt s a p = pick (ltb p 32) (readHeld (fields s .at (a + p))) none
 
 abbrev pub usedAt : List ℕ → ℕ → ℕ → Bool
 usedAt s a p = used (heldAt s a p) && ltb p 32
-
-abbrev pub usedNumber : List ℕ → ℕ → ℕ → ℕ
-usedNumber s a p = pick (sound s) (pick (not (usedAt s a p)) (number NoPlace) 0) (number BadBook)
 
 abbrev pub freeFrom : List ℕ → ℕ → ℕ
 freeFrom s a = lowest 32 (λ p. not (used (heldAt s a p)))

@@ -1,2 +1,3 @@
--- The 32 places of the mail and the 32 slots of the shelf, alike.
+-- What the numbers of the calls ask of the bytes of a book.
 pub mod Held
+pub mod First

@@ -9,7 +9,8 @@ ghost use Rattle.rules.specs.Model.{noDesk, atLimit, toIn};
 ghost use Rattle.book.specs.Layout.{setupOf};
 ghost use Rattle.book.specs.Numbers.{tablesOf, numberOf};
 ghost use Rattle.rows.specs.Rows.{AtDesk};
-ghost use Rattle.refusals.specs.Held.{usedAt, usedNumber, freeFrom, lagIn, lagsAt, behindFrom, seatLagsAt, seatsBehind};
+ghost use Rattle.refusals.specs.Held.{usedAt, freeFrom, lagIn, lagsAt, behindFrom, seatLagsAt, seatsBehind};
+ghost use Rattle.refusals.specs.First.{deskNumber, usedNumber};
 
 // Mail places and shelf slots, each.
 pub const PLACES: usize = 32;
@@ -158,15 +159,26 @@ fn shelf_behind(book: &[u8], desk: usize) -> bool
     behind_from(book, desk, parts::shelf_lag_of(book), rows::SHELF)
 }
 
-// Local: BadBook, NoDesk, PhaseFull or 0.
-pub fn local_number(book: &[u8], desk: usize) -> u8
-    ensures { λ r. ⌜ r ≡ numberOf (now (book .entry)) (Model.local desk) ⌝ }
+// What local, receive, reset and keep ask first.
+fn desk_number(book: &[u8], desk: usize) -> u8
+    ensures { λ r. ⌜ r ≡ deskNumber (now (book .entry)) desk ⌝ }
 {
     if !soundness::sound(book) {
         return rules::BAD_BOOK;
     }
     if no_desk(book, desk) {
         return rules::NO_DESK;
+    }
+    rules::DONE
+}
+
+// Local: BadBook, NoDesk, PhaseFull or 0.
+pub fn local_number(book: &[u8], desk: usize) -> u8
+    ensures { λ r. ⌜ r ≡ numberOf (now (book .entry)) (Model.local desk) ⌝ }
+{
+    let n = desk_number(book, desk);
+    if n != rules::DONE {
+        return n;
     }
     if at_limit(book, desk) {
         return rules::PHASE_FULL;
@@ -200,11 +212,9 @@ pub fn send_number(book: &[u8], desk: usize, to: usize) -> u8
 pub fn receive_number(book: &[u8], desk: usize, place: usize) -> u8
     ensures { λ r. ⌜ r ≡ numberOf (now (book .entry)) (Model.receive desk place) ⌝ }
 {
-    if !soundness::sound(book) {
-        return rules::BAD_BOOK;
-    }
-    if no_desk(book, desk) {
-        return rules::NO_DESK;
+    let n = desk_number(book, desk);
+    if n != rules::DONE {
+        return n;
     }
     if !is_used(book, rows::MAIL, place) {
         return rules::NO_PLACE;
@@ -222,11 +232,9 @@ pub fn receive_number(book: &[u8], desk: usize, place: usize) -> u8
 pub fn reset_number(book: &[u8], desk: usize) -> u8
     ensures { λ r. ⌜ r ≡ numberOf (now (book .entry)) (Model.reset desk) ⌝ }
 {
-    if !soundness::sound(book) {
-        return rules::BAD_BOOK;
-    }
-    if no_desk(book, desk) {
-        return rules::NO_DESK;
+    let n = desk_number(book, desk);
+    if n != rules::DONE {
+        return n;
     }
     if seats_behind(book, desk) {
         return rules::SEAT_BEHIND;
@@ -244,11 +252,9 @@ pub fn reset_number(book: &[u8], desk: usize) -> u8
 pub fn keep_number(book: &[u8], desk: usize) -> u8
     ensures { λ r. ⌜ r ≡ numberOf (now (book .entry)) (Model.keep desk) ⌝ }
 {
-    if !soundness::sound(book) {
-        return rules::BAD_BOOK;
-    }
-    if no_desk(book, desk) {
-        return rules::NO_DESK;
+    let n = desk_number(book, desk);
+    if n != rules::DONE {
+        return n;
     }
     if unstarted(book, desk) {
         return rules::NO_EVENT;

@@ -7,7 +7,7 @@ use native.Mathlib.Omega.{arith}
 use borrow.Author.Needs.{needs}
 use Rattle.book.specs.Sound.{sound}
 use Rattle.book.proofs.Soundness.{sound-size}
-use Rattle.refusals.specs.Held.{usedNumber}
+use Rattle.refusals.specs.First.{usedNumber}
 use Rattle.portal.proofs.Acts.{used-ready, free-done, free-left}
 use Rattle.portal.proofs.free.Statement.{statement}
 use Rattle.portal.proofs.free.Tie as tie
