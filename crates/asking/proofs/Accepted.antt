@@ -14,7 +14,7 @@ use Rattle.tools.specs.Tests.{pick}
 use Rattle.tools.specs.Lists.{byte, tab}
 use Rattle.tools.proofs.Tests.{or-false-l, or-false-r}
 use Rattle.tools.proofs.Reasons.{clear}
-use Rattle.tools.proofs.Lists.{is-tab, tab-same}
+use Rattle.tools.proofs.Lists.{is-tab}
 use Rattle.ring.specs.Phases.{Gap}
 use Rattle.rules.specs.declared.Relation.{Relation}
 use Rattle.rules.specs.Numbers.{NoPlace, NoRoom, OutOfReach, number}
@@ -48,7 +48,7 @@ use Rattle.book.specs.Answers.{answerTo, partIn, recordIn, partOf}
 use Rattle.book.specs.Numbers.{tablesOf, numberOf}
 use Rattle.book.proofs.Soundness.{sound-size}
 use Rattle.rules.proofs.RowBytes.{rows-alike, row-of-bytes}
-use Rattle.book.proofs.Rows.{row-bytes-at}
+use Rattle.book.proofs.Rows.{row-there}
 use Rattle.book.proofs.Told.{read-at}
 use Rattle.book.proofs.Numbers.{ready, accepted-answer}
 use Rattle.refusals.proofs.First.{asked-due, asked-clear}
@@ -164,12 +164,6 @@ pub part-tab : (n a : ℕ) (l : List ℕ) → a + n ≤ length l → take n (dro
 part-tab n a l h =
     is-tab n (λ c. byte l (a + c)) (take n (drop a l)) (length-take-le n (drop a l) (omega (arith, length-drop a l)))
     (λ c m. getD-take n (drop a l) c 0 m ∙ getD-drop a l c 0)
-
-row-there : (s : List ℕ) (k : ℕ) → tab 0 16 (λ c. byte s (spot k 4 + c)) ≡ rowBytes (rowAt s k)
-row-there s k =
-    tab-same 16 (λ c. byte s (spot k 4 + c)) (λ c. byte s (spot k (4 + c)))
-    (λ c l. let e : spot k 4 + c ≡ spot k (4 + c) = omega arith in ap (byte s) e)
-    ∙ row-bytes-at s k
 
 row-read : (s : List ℕ) (k : ℕ) → rowBytes (rowAt s k) ≡ rowBytes (readRow (rowAt s k))
 row-read s k = rows-alike (rowAt s k) (readRow (rowAt s k)) (λ j m. sym (read-at (rowAt s k) j m))

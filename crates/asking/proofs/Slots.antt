@@ -11,7 +11,7 @@ use Rattle.tools.specs.Lists.{byte}
 use Rattle.tools.proofs.Tests.{not-off}
 use Rattle.ring.specs.Phases.{Pair, lagGap}
 use Rattle.rules.specs.declared.Setup.{Setup}
-use Rattle.rules.specs.Model.{used, byIn, rowIn, noSlot, near, isOut, gap, gapHeld, gapFrom}
+use Rattle.rules.specs.Model.{byIn, rowIn, noSlot, near, isOut, gap, gapHeld, gapFrom}
 use Rattle.rules.specs.Calls.{ringOf}
 use Rattle.rules.proofs.Setups.{permitted}
 use Rattle.book.specs.Layout.{spot, setupOf, rowAt}

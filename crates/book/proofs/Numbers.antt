@@ -6,7 +6,7 @@ use mathlib.Core.Bool.{Bool, true, false}
 use mathlib.Core.List.{List}
 use native.Mathlib.Omega.{arith}
 use Rattle.tools.specs.Tests.{pick}
-use Rattle.rules.specs.Model.{Act, Answer, refusal, Result, done, step}
+use Rattle.rules.specs.Model.{Act, refusal, Result, done, step}
 use Rattle.rules.specs.Calls.{on, ringOf, call}
 use Rattle.rules.proofs.Steps.{step-number}
 use Rattle.book.specs.Layout.{setupOf, Holds}

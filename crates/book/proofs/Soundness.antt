@@ -16,7 +16,7 @@ use Rattle.tools.proofs.Tests.{each, all-at}
 use Rattle.ring.specs.Phases.{Pair, lagOf}
 use Rattle.rules.specs.declared.Setup.{Setup}
 use Rattle.rules.specs.Setups.{permits}
-use Rattle.rules.specs.Model.{zeros, idle}
+use Rattle.rules.specs.Model.{Held, zeros, idle}
 use Rattle.rules.specs.Fits.{phases, PairFits, RowFits, MailFits, SlotFits, Fits}
 use Rattle.rules.proofs.Setups.{permitted}
 use Rattle.book.specs.Layout.{Fields, fields, setupOf, spot, mark0, mark1, headByte, Holds}
@@ -268,38 +268,38 @@ module _ (b : List ℕ) (s : sound b ≡ true) where
               let q = sound-seat j (ltb-true j 8 e) in
               absurd (let m = q .desk (eqb-false (byte b (spot j 2)) 0 z) in omega arith)
 
+      -- a place or slot is free, or fits where its first tag is not 0
+      held : (a p : ℕ) (Q : Held → Type 0)
+          → (p < 32 → (byte b (spot (a + p) 2) ≡ 0 → ⊥)
+          → Q (record { by = byte b (spot (a + p) 2) - 1; to = byte b (spot (a + p) 3) - 1; row = readRow (((fields b) .at (a + p)) .row) }))
+          → (t : Bool) → ltb p 32 ≡ t → Each Q (pick t (readHeld ((fields b) .at (a + p))) none)
+      held a p Q fits false e = tt
+      held a p Q fits true e = go (eqb (byte b (spot (a + p) 2)) 0) refl
+        where
+          go : (t : Bool) → eqb (byte b (spot (a + p) 2)) 0 ≡ t
+              → Each Q
+              (pick t none (some record { by = byte b (spot (a + p) 2) - 1; to = byte b (spot (a + p) 3) - 1; row = readRow (((fields b) .at (a + p)) .row) }))
+          go true z = tt
+          go false z = fits (ltb-true p 32 e) (eqb-false _ _ z)
+
       mail : (p : ℕ) (t : Bool) → ltb p 32 ≡ t
           → Each (MailFits (setupOf b) (phases (read (fields b))) p) (pick t (readHeld ((fields b) .at (8 + p))) none)
-      mail p false e = tt
-      mail p true e = go (eqb (byte b (spot (8 + p) 2)) 0) refl
-        where
-          go : (t : Bool) → eqb (byte b (spot (8 + p) 2)) 0 ≡ t
-              → Each (MailFits (setupOf b) (phases (read (fields b))) p)
-              (pick t none (some record { by = byte b (spot (8 + p) 2) - 1; to = byte b (spot (8 + p) 3) - 1; row = readRow (((fields b) .at (8 + p)) .row) }))
-          go true z = tt
-          go false z =
-              let l = ltb-true p 32 e in
-              let q = sound-mail p l in
-              let n : byte b (spot (8 + p) 2) ≡ 0 → ⊥ = eqb-false _ _ z in
-              let y = q .by in
-              let v = q .some-to n in
-              let u = q .to n in
-              let d : byte b (spot (8 + p) 2) ≡ byte b (spot (8 + p) 3) → ⊥ = q .differ n in
-              record { place = l; by = omega arith; to = omega arith; differ = λ w. d (omega arith); row = q .row n }
+      mail p =
+          held 8 p _
+          (λ l n.
+          let q = sound-mail p l in
+          let y = q .by in
+          let v = q .some-to n in
+          let u = q .to n in
+          let d : byte b (spot (8 + p) 2) ≡ byte b (spot (8 + p) 3) → ⊥ = q .differ n in
+          record { place = l; by = omega arith; to = omega arith; differ = λ w. d (omega arith); row = q .row n })
 
       shelf : (p : ℕ) (t : Bool) → ltb p 32 ≡ t
           → Each (SlotFits (setupOf b) (phases (read (fields b))) p) (pick t (readHeld ((fields b) .at (40 + p))) none)
-      shelf p false e = tt
-      shelf p true e = go (eqb (byte b (spot (40 + p) 2)) 0) refl
-        where
-          go : (t : Bool) → eqb (byte b (spot (40 + p) 2)) 0 ≡ t
-              → Each (SlotFits (setupOf b) (phases (read (fields b))) p)
-              (pick t none (some record { by = byte b (spot (40 + p) 2) - 1; to = byte b (spot (40 + p) 3) - 1; row = readRow (((fields b) .at (40 + p)) .row) }))
-          go true z = tt
-          go false z =
-              let l = ltb-true p 32 e in
-              let q = sound-slot p l in
-              let n : byte b (spot (40 + p) 2) ≡ 0 → ⊥ = eqb-false _ _ z in
-              let y = q .by in
-              let v : byte b (spot (40 + p) 3) ≡ 0 = q .filler in
-              record { place = l; by = omega arith; to = omega arith; row = q .row n }
+      shelf p =
+          held 40 p _
+          (λ l n.
+          let q = sound-slot p l in
+          let y = q .by in
+          let v : byte b (spot (40 + p) 3) ≡ 0 = q .filler in
+          record { place = l; by = omega arith; to = omega arith; row = q .row n })

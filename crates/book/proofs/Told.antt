@@ -1,13 +1,12 @@
 -- What the tables of bytes say, byte by byte, and what a sound book's setup bytes are good for.
 -- Assumes nothing.
 use Prim.Native.Nat.{ℕ, _+_, _<_, _≤_}
-use mathlib.Core.Path.{_≡_, refl, ap, _∙_}
+use mathlib.Core.Path.{_≡_, ap, _∙_}
 use mathlib.Core.Bool.{true}
 use mathlib.Core.List.{List}
 use borrow.Author.Tests.{lt-ltb}
 use Rattle.tools.specs.Lists.{byte}
-use Rattle.rules.specs.Model.{Row, Held, own}
-use mathlib.Core.Option.{Option}
+use Rattle.rules.specs.Model.{Row, own}
 use Rattle.rules.proofs.Setups.{permitted}
 use Rattle.book.specs.Layout.{rowAt, setupOf, fields}
 use Rattle.book.specs.Sound.{sound}

@@ -7,7 +7,7 @@
 --   labelOf r         the stamp that the record r tells
 --   readStamp X r     the stamp, or none where r does not read
 --   filled t w        the bytes t with those of w in front, the rest as they were
-use Prim.Native.Nat.{ℕ, _+_, _*_}
+use Prim.Native.Nat.{ℕ, _+_}
 use mathlib.Core.Bool.{Bool}
 use mathlib.Core.Option.{Option, none, some}
 use mathlib.Core.List.{List, [], _∷_, _++_}

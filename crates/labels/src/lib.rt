@@ -2,7 +2,7 @@
 ghost use mathlib.Core.Path.{_≡_};
 ghost use mathlib.Core.Bool.{true};
 ghost use Prim.Native.Nat.{_+_, _*_, _<_, _≤_};
-ghost use lib.ListN.{length, drop};
+ghost use lib.ListN.{length};
 ghost use Rattle.tools.specs.Tests.{allBelow};
 ghost use Rattle.tools.specs.Lists.{byte};
 ghost use Rattle.rules.specs.Labels.{gapOff, beforeOff, compareOff};
@@ -32,19 +32,6 @@ pub enum Owner {
 pub struct Reading {
     pub who: Owner,
     pub row: [u8; 16],
-}
-
-fn row_in(r: &[u8]) -> [u8; 16]
-    requires { ⌜ length (now r) ≡ 20 ⌝ }
-    ensures { λ row. ⌜ row ≡ drop 4 (now (r .entry)) ⌝ }
-{
-    let mut row = [0u8; 16];
-    let mut c: usize = 0;
-    while c < 16 {
-        row[c] = r[4 + c];
-        c += 1;
-    }
-    row
 }
 
 fn pair_reads(s: Setup, r: &[u8], j: usize) -> bool
@@ -95,7 +82,7 @@ pub fn read(s: Setup, r: &[u8]) -> Reading
             row: [0u8; 16],
         };
     }
-    let row = row_in(r);
+    let row = tools::sixteen(r, 4);
     Reading {
         who: Owner::Of(r[2]),
         row: row,

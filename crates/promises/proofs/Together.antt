@@ -9,8 +9,8 @@ use native.Mathlib.Omega.{arith}
 use borrow.Author.Tests.{eq-eqb}
 use Rattle.tools.specs.Tests.{pick}
 use Rattle.rules.specs.declared.Setup.{Setup}
-use Rattle.rules.specs.Model.{Answer, refusal}
-use Rattle.rules.specs.Calls.{Call, start, on, Turn, freshBook, ringOf, lineOf, call}
+use Rattle.rules.specs.Model.{refusal}
+use Rattle.rules.specs.Calls.{Call, start, on, Turn, ringOf, lineOf, call}
 use Rattle.rules.specs.History.{State, begin, next, after}
 use Rattle.rules.specs.Round.{roundBook, roundTurn, roundAnswer}
 use Rattle.rules.proofs.Runs.{Faithful, faithful-begin, faithful-next, started}

@@ -21,13 +21,7 @@ pub fn row_array(book: &[u8], k: usize) -> [u8; 16]
     requires { ⌜ k < 72 ⌝ }
     ensures { λ r. ⌜ r ≡ rowBytes (rowAt (now (book .entry)) k) ⌝ }
 {
-    let mut row = [0u8; 16];
-    let mut c: usize = 0;
-    while c < 16 {
-        row[c] = book[16 + 20 * k + (4 + c)];
-        c += 1;
-    }
-    row
+    tools::sixteen(book, 16 + 20 * k + 4)
 }
 
 fn with_pair(row: [u8; 16], j: usize, phase: u8, clock: u8) -> [u8; 16]

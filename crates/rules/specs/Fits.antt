@@ -11,7 +11,7 @@ use mathlib.Core.Bool.{false}
 use Rattle.tools.specs.Tables.{Each}
 use Rattle.ring.specs.Phases.{Pair, lagOf}
 use Rattle.rules.specs.declared.Setup.{Setup}
-use Rattle.rules.specs.Model.{Row, Held, Tables, own, limit, zeros, idle}
+use Rattle.rules.specs.Model.{Row, Held, Tables, own, zeros, idle}
 
 abbrev pub phases : Tables → ℕ → ℕ
 phases b k = own b k .phase

@@ -1,21 +1,20 @@
--- `labels::row_in` meets its contract.
+-- `tools::sixteen` meets its contract.
 -- Assumes nothing.
 use Prim.Native.Nat.{ℕ, _≤_, _+_, _-_}
-use mathlib.Core.Path.{_≡_, refl, _∙_}
+use mathlib.Core.Path.{_≡_, refl}
 use native.Mathlib.Omega.{arith}
 use borrow.Author.Needs.{needs}
 use lib.ListN.{length-replicate}
 use Rattle.tools.specs.Lists.{byte, Filled}
 use Rattle.tools.proofs.Lists.{filled-none, filled-more, filled-all}
-use Rattle.labels.proofs.Records.{row-dropped}
-use Rattle.labels.proofs.row_in.Statement.{statement}
-use Rattle.labels.proofs.row_in.Tie as tie
+use Rattle.tools.proofs.sixteen.Statement.{statement}
+use Rattle.tools.proofs.sixteen.Tie as tie
 
 abbrev Inv-loop : tie.InvT-loop
-Inv-loop r row₀ c₀ row c = (c ≤ 16) × Filled 16 c (λ i. byte r (4 + i)) row
+Inv-loop bytes a row₀ c₀ row c = (c ≤ 16) × Filled 16 c (λ i. byte bytes (a + i)) row
 
 abbrev μ-loop : tie.MeasureT-loop
-μ-loop r row₀ c₀ row c = 16 - c
+μ-loop bytes a row₀ c₀ row c = 16 - c
 
 loop-holds : tie.Need-loop-holds Inv-loop μ-loop
 loop-holds c = (search needs, filled-none 16 _ _ (length-replicate {A = ℕ} 16 0))
@@ -39,10 +38,10 @@ loop-again : tie.Need-loop-again Inv-loop μ-loop
 loop-again c = let h = c .before .before .loop in (omega arith, filled-more 16 (h .c) _ (h .row) _ (h .inv .1) (omega arith) refl)
 
 returns : tie.Need-returns Inv-loop μ-loop
-returns c = let h = c .before .loop in let e : h .c ≡ 16 = omega arith in filled-all 16 _ (h .row) (rw e at (h .inv .1)) ∙ row-dropped (c .before .before .args .r .now) (c .before .before .pre)
+returns c = let h = c .before .loop in let e : h .c ≡ 16 = omega arith in filled-all 16 _ (h .row) (rw e at (h .inv .1))
 
-pub row-in-spec : {M : Type 1} → statement M
-row-in-spec =
+pub sixteen-spec : {M : Type 1} → statement M
+sixteen-spec =
     tie.close
     (tie.spec
     Inv-loop
