@@ -2,8 +2,8 @@
 use Rattle.text.specs.Stream.{held, lineOf}
 use Rattle.text.proofs.Writing.{none, then}
 use Rattle.text.proofs.Streams.{quiet, gathers, first-plain, first-text, first-after}
-use Rattle.listing.specs.Answering.{lineText, lineBook, answering}
-use Rattle.listing.proofs.Listings.{blind}
+use Rattle.answering.specs.Answering.{lineText, lineBook, answering}
+use Rattle.answering.proofs.Answered.{blind}
 use native.Mathlib.Omega.{arith}
 use lib.ListN.{length, take, drop, length-take, length-drop}
 use lib.Seq.{take-all, length-take-le}

@@ -3,7 +3,8 @@ use Rattle.text.specs.Put.{Wrote}
 use Rattle.text.specs.Stream.{Ends, start, part, most, textOf, after}
 use Rattle.text.proofs.Writing.{none, then, wrote-length}
 use Rattle.text.proofs.Streams.{more-text, more-after, tail-text, tail-after}
-use Rattle.listing.specs.Answering.{answering, fedText}
+use Rattle.answering.specs.Answering.{answering}
+use Rattle.listing.specs.Feeding.{fedText}
 use borrow.Author.Tests.{leb-true}
 use native.Mathlib.Omega.{arith}
 use lib.ListN.{length, take}

@@ -1,15 +1,15 @@
--- `listing::obey` meets its contract. Assumes nothing.
+-- `answering::obey` meets its contract. Assumes nothing.
 use Rattle.tools.specs.Lists.{byte}
 use Rattle.rules.specs.Model.{Answer, done}
-use Rattle.listing.proofs.Listings.{few, same-book}
+use Rattle.answering.proofs.Answered.{few, same-book}
 use native.Mathlib.Omega.{arith}
 use mathlib.Core.Path.{refl, ap, sym, _∙_}
 use borrow.Author.Needs.{needs}
-use Rattle.listing.proofs.obey.Statement.{statement}
-use Rattle.listing.proofs.obey.Tie as tie
+use Rattle.answering.proofs.obey.Statement.{statement}
+use Rattle.answering.proofs.obey.Tie as tie
 
-desks-of-requires : tie.Need-desks-of-requires
-desks-of-requires c κs = search needs
+byte-or-zero-requires : tie.Need-byte-or-zero-requires
+byte-or-zero-requires c κs = search needs
 
 enum-known-c : tie.Need-enum-known-c
 enum-known-c c = search needs
@@ -30,7 +30,7 @@ put-stamped-requires : tie.Need-put-stamped-requires
 put-stamped-requires c κs =
     let k = c .before .before in
     let s = k .before .before .before .before .before .before in (
-      λ e. omega (arith, s .desks-of .ensures, few _ _ (ap (λ (r : Answer). r .number) (sym (k .local .ensures .0)) ∙ e)),
+      λ e. omega (arith, s .byte-or-zero .ensures, few _ _ (ap (λ (r : Answer). r .number) (sym (k .local .ensures .0)) ∙ e)),
       search needs,
     )
 
@@ -44,7 +44,7 @@ put-sent-requires : tie.Need-put-sent-requires
 put-sent-requires c κs =
     let k = c .before .before in
     let s = k .before .before .before .before .before .before in (
-      λ e. omega (arith, s .desks-of .ensures, few _ _ (ap (λ (r : Answer). r .number) (sym (k .send .ensures .0)) ∙ e)),
+      λ e. omega (arith, s .byte-or-zero .ensures, few _ _ (ap (λ (r : Answer). r .number) (sym (k .send .ensures .0)) ∙ e)),
       search needs,
     )
 
@@ -58,7 +58,7 @@ put-stamped-requires-2 : tie.Need-put-stamped-requires-2
 put-stamped-requires-2 c κs =
     let k = c .before .before in
     let s = k .before .before .before .before .before .before in (
-      λ e. omega (arith, s .desks-of .ensures, few _ _ (ap (λ (r : Answer). r .number) (sym (k .receive .ensures .0)) ∙ e)),
+      λ e. omega (arith, s .byte-or-zero .ensures, few _ _ (ap (λ (r : Answer). r .number) (sym (k .receive .ensures .0)) ∙ e)),
       search needs,
     )
 
@@ -72,7 +72,7 @@ put-stamped-requires-3 : tie.Need-put-stamped-requires-3
 put-stamped-requires-3 c κs =
     let k = c .before .before in
     let s = k .before .before .before .before .before .before in (
-      λ e. omega (arith, s .desks-of .ensures, few _ _ (ap (λ (r : Answer). r .number) (sym (k .reset .ensures .0)) ∙ e)),
+      λ e. omega (arith, s .byte-or-zero .ensures, few _ _ (ap (λ (r : Answer). r .number) (sym (k .reset .ensures .0)) ∙ e)),
       search needs,
     )
 
@@ -154,7 +154,7 @@ returns-2 c =
     let k = a .before .before .before in
     let g = k .before .before .before .before .c2 .given .1 in
     let s = k .before .before .before .before .before .before in (
-      rw (g, sym (k .local .ensures .0), sym (s .desks-of .ensures)) (a .put-stamped .ensures),
+      rw (g, sym (k .local .ensures .0), sym (s .byte-or-zero .ensures)) (a .put-stamped .ensures),
       rw g (k .local .ensures .1 .1),
     )
 
@@ -170,7 +170,7 @@ returns-3 c =
     let k = a .before .before .before in
     let g = k .before .before .before .before .c3 .given .1 in
     let s = k .before .before .before .before .before .before in (
-      rw (g, sym (k .send .ensures .0), sym (s .desks-of .ensures)) (a .put-sent .ensures),
+      rw (g, sym (k .send .ensures .0), sym (s .byte-or-zero .ensures)) (a .put-sent .ensures),
       rw g (k .send .ensures .1 .1),
     )
 
@@ -186,7 +186,7 @@ returns-4 c =
     let k = a .before .before .before in
     let g = k .before .before .before .before .c4 .given .1 in
     let s = k .before .before .before .before .before .before in (
-      rw (g, sym (k .receive .ensures .0), sym (s .desks-of .ensures)) (a .put-stamped2 .ensures),
+      rw (g, sym (k .receive .ensures .0), sym (s .byte-or-zero .ensures)) (a .put-stamped2 .ensures),
       rw g (k .receive .ensures .1 .1),
     )
 
@@ -202,7 +202,7 @@ returns-5 c =
     let k = a .before .before .before in
     let g = k .before .before .before .before .c5 .given .1 in
     let s = k .before .before .before .before .before .before in (
-      rw (g, sym (k .reset .ensures .0), sym (s .desks-of .ensures)) (a .put-stamped3 .ensures),
+      rw (g, sym (k .reset .ensures .0), sym (s .byte-or-zero .ensures)) (a .put-stamped3 .ensures),
       rw g (k .reset .ensures .1 .1),
     )
 
@@ -301,7 +301,7 @@ pub obey-spec : {M : Type 1} → statement M
 obey-spec =
     tie.close
     (tie.spec
-    desks-of-requires
+    byte-or-zero-requires
     enum-known-c
     start-requires
     put-number-requires

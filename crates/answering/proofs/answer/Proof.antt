@@ -1,8 +1,8 @@
--- `listing::answer` meets its contract. Assumes nothing.
-use Rattle.listing.specs.Answering.{lineText, lineBook}
+-- `answering::answer` meets its contract. Assumes nothing.
+use Rattle.answering.specs.Answering.{lineText, lineBook}
 use borrow.Author.Needs.{needs}
-use Rattle.listing.proofs.answer.Statement.{statement}
-use Rattle.listing.proofs.answer.Tie as tie
+use Rattle.answering.proofs.answer.Statement.{statement}
+use Rattle.answering.proofs.answer.Tie as tie
 
 parse-requires : tie.Need-parse-requires
 parse-requires c κs = search needs

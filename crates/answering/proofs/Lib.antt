@@ -1,0 +1,2 @@
+-- Laws of one line.
+pub mod Answered
