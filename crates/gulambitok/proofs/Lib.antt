@@ -1,2 +1,2 @@
--- The laws of lent buffers.
-pub mod Given
+-- Laws of calls through the C interface.
+pub mod Called

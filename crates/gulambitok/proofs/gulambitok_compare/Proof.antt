@@ -1,7 +1,7 @@
 -- `gulambitok::gulambitok_compare` meets its contract.
 -- Assumes nothing.
-use Rattle.gulambitok.specs.Door.{tooShort, byteIn}
-use Rattle.gulambitok.proofs.Given.{due-as}
+use Rattle.door.specs.Door.{tooShort, byteIn}
+use Rattle.gulambitok.proofs.Called.{due-as}
 use borrow.Author.Needs.{needs}
 use Rattle.gulambitok.proofs.gulambitok_compare.Statement.{statement}
 use Rattle.gulambitok.proofs.gulambitok_compare.Tie as tie

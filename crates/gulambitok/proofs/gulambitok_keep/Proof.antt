@@ -7,8 +7,8 @@ use native.Mathlib.Omega.{arith}
 use lib.ListN.{length}
 use borrow.Author.Tests.{lt-ltb, le-ltb}
 use Rattle.rules.specs.Model.{keep}
-use Rattle.gulambitok.specs.Door.{tooShort, bookBy, byteIn}
-use Rattle.gulambitok.proofs.Given.{due-as, left-short}
+use Rattle.door.specs.Door.{tooShort, bookBy, byteIn}
+use Rattle.gulambitok.proofs.Called.{due-as, left-short}
 use borrow.Author.Needs.{needs}
 use Rattle.gulambitok.proofs.gulambitok_keep.Statement.{statement}
 use Rattle.gulambitok.proofs.gulambitok_keep.Tie as tie

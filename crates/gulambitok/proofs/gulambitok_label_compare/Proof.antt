@@ -3,8 +3,8 @@
 use mathlib.Core.Path.{ap, _∙_}
 use Rattle.rules.specs.declared.Setup.{Setup}
 use Rattle.book.specs.Answers.{compareOf}
-use Rattle.gulambitok.specs.Door.{tooShort, byteIn}
-use Rattle.gulambitok.proofs.Given.{due-as}
+use Rattle.door.specs.Door.{tooShort, byteIn}
+use Rattle.gulambitok.proofs.Called.{due-as}
 use borrow.Author.Needs.{needs}
 use Rattle.gulambitok.proofs.gulambitok_label_compare.Statement.{statement}
 use Rattle.gulambitok.proofs.gulambitok_label_compare.Tie as tie

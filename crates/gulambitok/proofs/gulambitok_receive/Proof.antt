@@ -6,8 +6,8 @@ use borrow.Author.Tests.{lt-ltb, le-ltb}
 use Rattle.book.specs.Stamps.{filled}
 use Rattle.book.specs.Answers.{recordIn}
 use Rattle.rules.specs.Replies.{stampedSays}
-use Rattle.gulambitok.specs.Door.{tooShort, stampIn}
-use Rattle.gulambitok.proofs.Given.{left-short, gave-room}
+use Rattle.door.specs.Door.{tooShort, stampIn}
+use Rattle.gulambitok.proofs.Called.{left-short, gave-room}
 use borrow.Author.Needs.{needs}
 use Rattle.gulambitok.proofs.gulambitok_receive.Statement.{statement}
 use Rattle.gulambitok.proofs.gulambitok_receive.Tie as tie
@@ -26,8 +26,8 @@ returns c =
     let x = c .before .before .before .before .before .before .args in
     left-short (stampIn (x .book .now)) refl (x .stamp .now) _ _ (tooShort 20 (x .stamp .now)) (lt-ltb _ 20 (c .before .before .before .if1 .taken)) _ _ (c .before .receive-number .ensures) (c .number-by .ensures)
 
-desks-in-requires : tie.Need-desks-in-requires
-desks-in-requires c κs = search needs
+byte-or-zero-requires : tie.Need-byte-or-zero-requires
+byte-or-zero-requires c κs = search needs
 
 receive-requires : tie.Need-receive-requires
 receive-requires c κs = search needs
@@ -47,7 +47,7 @@ returns-2 c =
     let g = c .before .before .give-stamp .ensures in
     let x = c .before .before .before .before .before .before .before .before .before .before .before .before .before .args in
     gave-room (stampIn (x .book .now)) refl (x .stamp .now) _ _ (tooShort 20 (x .stamp .now)) (le-ltb _ 20 (c .before .before .before .before .before .before .before .before .before .before .if1 .left)) _ (w .0) _ _ _ (g .0) (w .1 .1)
-    (g .1 ∙ ap (λ (D : ℕ). filled (x .stamp .now) (recordIn D (stampedSays (c .before .before .before .before .before .before .receive .result) .value))) (c .before .before .before .before .before .before .before .before .desks-in .ensures))
+    (g .1 ∙ ap (λ (D : ℕ). filled (x .stamp .now) (recordIn D (stampedSays (c .before .before .before .before .before .before .receive .result) .value))) (c .before .before .before .before .before .before .before .before .byte-or-zero .ensures))
 
 pub gulambitok-receive-spec : {M : Type 1} → statement M
 gulambitok-receive-spec =
@@ -57,7 +57,7 @@ gulambitok-receive-spec =
     number-by-requires
     same-length
     returns
-    desks-in-requires
+    byte-or-zero-requires
     receive-requires
     give-stamp-requires
     same-length-2

@@ -7,8 +7,8 @@ use Rattle.tools.proofs.Tests.{or-false-l, or-false-r}
 use Rattle.book.specs.Stamps.{filled}
 use Rattle.book.specs.Answers.{recordIn}
 use Rattle.rules.specs.Replies.{postedSays}
-use Rattle.gulambitok.specs.Door.{tooShort, eitherShort, byteIn, stampIn}
-use Rattle.gulambitok.proofs.Given.{left-short, gave-room}
+use Rattle.door.specs.Door.{tooShort, eitherShort, byteIn, stampIn}
+use Rattle.gulambitok.proofs.Called.{left-short, gave-room}
 use borrow.Author.Needs.{needs}
 use Rattle.gulambitok.proofs.gulambitok_send.Statement.{statement}
 use Rattle.gulambitok.proofs.gulambitok_send.Tie as tie
@@ -31,8 +31,8 @@ returns c =
     let b = left-short byteIn refl (x .place .now) _ _ q (c .before .before .before .if1 .taken) _ _ w (c .number-by .ensures) in
     (a .0, (a .1 .0, (a .1 .1, b .1 .1)))
 
-desks-in-requires : tie.Need-desks-in-requires
-desks-in-requires c κs = search needs
+byte-or-zero-requires : tie.Need-byte-or-zero-requires
+byte-or-zero-requires c κs = search needs
 
 send-requires : tie.Need-send-requires
 send-requires c κs = search needs
@@ -58,7 +58,7 @@ returns-2 c =
     let w = c .before .before .before .before .before .before .before .before .before .send .ensures in
     let g = c .before .before .before .before .give-sent .ensures in
     let e = c .before .before .before .before .before .before .before .before .before .before .before .before .before .if1 .left in
-    let d = c .before .before .before .before .before .before .before .before .before .before .before .desks-in .ensures in
+    let d = c .before .before .before .before .before .before .before .before .before .before .before .byte-or-zero .ensures in
     let x = c .before .before .before .before .before .before .before .before .before .before .before .before .before .before .before .before .before .args in
     let y = c .before .before .before .before .before .before .before .before .before .send .result in
     let q = eitherShort (x .stamp .now) (x .place .now) in
@@ -75,7 +75,7 @@ gulambitok-send-spec =
     number-by-requires
     same-length
     returns
-    desks-in-requires
+    byte-or-zero-requires
     send-requires
     give-sent-requires
     same-length-2

@@ -7,8 +7,8 @@ use borrow.Author.Tests.{lt-ltb, le-ltb}
 use lib.ListN.{length}
 use Rattle.book.specs.Stamps.{filled}
 use Rattle.book.specs.Answers.{partIn}
-use Rattle.gulambitok.specs.Door.{tooShort}
-use Rattle.gulambitok.proofs.Given.{left-short, part-size, show-refused, show-given}
+use Rattle.door.specs.Door.{tooShort}
+use Rattle.gulambitok.proofs.Called.{left-short, part-size, show-refused, show-given}
 use borrow.Author.Needs.{needs}
 use Rattle.gulambitok.proofs.gulambitok_show.Statement.{statement}
 use Rattle.gulambitok.proofs.gulambitok_show.Tie as tie

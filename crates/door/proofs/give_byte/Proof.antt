@@ -1,9 +1,9 @@
--- `gulambitok::give_byte` meets its contract.
+-- `door::give_byte` meets its contract.
 -- Assumes nothing.
-use Rattle.gulambitok.proofs.Given.{byte-short, byte-given}
+use Rattle.door.proofs.Given.{byte-short, byte-given}
 use borrow.Author.Needs.{needs}
-use Rattle.gulambitok.proofs.give_byte.Statement.{statement}
-use Rattle.gulambitok.proofs.give_byte.Tie as tie
+use Rattle.door.proofs.give_byte.Statement.{statement}
+use Rattle.door.proofs.give_byte.Tie as tie
 
 returns : tie.Need-returns
 returns c = byte-short _ _ (c .if1 .taken)

@@ -1,4 +1,4 @@
--- What a call answers and leaves in the buffers that it is lent, whether they have room or not.
+-- Answers as numbers, and as bytes in lent buffers, whether they have room or not.
 -- Assumes nothing.
 use Prim.Native.Nat.{ℕ, _<_, _≤_}
 use mathlib.Core.Path.{_≡_, refl, sym, ap, _∙_, subst}
@@ -8,20 +8,16 @@ use borrow.Author.Tests.{ne-eqb, lt-ltb, le-ltb}
 use lib.Dec.{eqb, ltb}
 use lib.ListN.{length}
 use Rattle.tools.specs.Tests.{pick}
-use Rattle.tools.proofs.Lists.{length-tab}
 use Rattle.rules.specs.declared.Stamp.{Stamp}
 use Rattle.rules.specs.declared.Stamped.{Stamped}
 use Rattle.rules.specs.declared.Posted.{Posted}
 use Rattle.rules.specs.declared.Posted.the-variants as Posts
-use Rattle.rules.specs.Model.{Act, show, Value, nothing, Answer, refusal, accepted, done}
-use Rattle.rules.specs.Calls.{on}
-use Rattle.rules.specs.Replies.{rowBytes, rowOf, stampedSays, postedSays}
+use Rattle.rules.specs.Model.{Value, nothing, Answer, refusal, accepted}
+use Rattle.rules.specs.Replies.{rowOf, stampedSays, postedSays}
 use Rattle.book.specs.Stamps.{writeStamp, filled}
-use Rattle.book.specs.Answers.{answerTo, bookAfter, partIn, recordIn, partOf}
-use Rattle.book.specs.Numbers.{numberOf}
-use Rattle.book.proofs.Numbers.{answer-number, accepted-answer, refused-answer}
+use Rattle.book.specs.Answers.{recordIn}
 use Rattle.parts.proofs.Lent.{filled-none}
-use Rattle.gulambitok.specs.Door.{tooShort, orNoRoom, cramped, bookBy, given, byteIn}
+use Rattle.door.specs.Door.{tooShort, orNoRoom, cramped, given, byteIn}
 
 -- the number with NoRoom as one more reason
 pub room-lacks : (q : Bool) (n : ℕ) → (q && (eqb n 0 || ltb 15 n)) ≡ true → 15 ≡ cramped q (refusal n) .number
@@ -47,15 +43,8 @@ byte-given t w l m e = rw (le-ltb (length t) 1 m) (refl, e)
 abbrev pub Due : (Value → List ℕ) → List ℕ → Bool → Answer → ℕ → List ℕ → Type 0
 Due f t q a r l = (r ≡ cramped q a .number) × (l ≡ given f t q a)
 
--- the same, and the bytes b that the act c leaves of the book s
-abbrev pub DueOn : (Value → List ℕ) → List ℕ → List ℕ → Act → Bool → ℕ → List ℕ → List ℕ → Type 0
-DueOn f t s c q r b l = (r ≡ cramped q (answerTo s (on c)) .number) × ((b ≡ bookBy q s c) × (l ≡ given f t q (answerTo s (on c))))
-
-pub due-as : (f : Value → List ℕ) (t : List ℕ) (q : Bool) (a b : Answer) (r : ℕ) (l : List ℕ) → a ≡ b → Due f t q a r l → Due f t q b r l
-due-as f t q a b r l e d = subst (λ (x : Answer). Due f t q x r l) e d
-
 module _ (f : Value → List ℕ) (none : f nothing ≡ []) (t : List ℕ) where
-  as-it-was : t ≡ filled t (f nothing)
+  pub as-it-was : t ≡ filled t (f nothing)
   as-it-was = sym (ap (filled t) none ∙ filled-none t)
 
   -- a refusal
@@ -79,19 +68,6 @@ module _ (f : Value → List ℕ) (none : f nothing ≡ []) (t : List ℕ) where
       bytes : (q : Bool) → pick q t (filled t (f v)) ≡ given f t q (accepted v)
       bytes true = as-it-was
       bytes false = refl
-
-  module _ (s : List ℕ) (c : Act) (q : Bool) where
-    -- a buffer too short: the number only
-    pub left-short : q ≡ true → (n r : ℕ) → n ≡ numberOf s c → r ≡ cramped true (refusal n) .number → DueOn f t s c q r s t
-    left-short e n r m h =
-        subst (λ (q : Bool). DueOn f t s c q r s t) (sym e) (h ∙ ap orNoRoom (m ∙ sym (answer-number s c)), (refl, as-it-was))
-
-    -- room enough: what the answer a says
-    pub gave-room : q ≡ false → (a : Answer) → a ≡ answerTo s (on c) → (r : ℕ) (b l : List ℕ)
-        → r ≡ a .number → b ≡ bookAfter s (on c) → l ≡ filled t (f (a .value)) → DueOn f t s c q r b l
-    gave-room e a x r b l h k g =
-        subst (λ (q : Bool). DueOn f t s c q r b l) (sym e)
-        (h ∙ ap (λ (y : Answer). y .number) x, (k, g ∙ ap (λ (y : Answer). filled t (f (y .value))) x))
 
 -- the stamp of a refused event, and of an accepted one
 module _ (x : Stamped) (D : ℕ) (t : List ℕ) where
@@ -124,18 +100,3 @@ module _ (m : Posted) (x : Stamp) (D : ℕ) (t u : List ℕ) where
         g .0 ∙ ap (λ (z : Bool). cramped z (refusal 0) .number) q,
         (h, g .1 ∙ ap (λ (z : Bool). pick z u (filled u (p ∷ []))) q),
       )
-
--- show: sixteen bytes where it is accepted
-module _ (s : List ℕ) (i : ℕ) where
-  pub part-size : numberOf s (show i) ≡ 0 → length (partOf s i) ≡ 16
-  unfolding done rowBytes
-  part-size e = sym (ap (λ (a : Answer). length (partIn (a .value))) (accepted-answer s (show i) e)) ∙ length-tab 0 16 _
-
-  module _ (t : List ℕ) (q : Bool) (room : q ≡ false) (n : ℕ) (h : n ≡ numberOf s (show i)) where
-    pub show-refused : (n ≡ 0 → ⊥) → Due partIn t q (answerTo s (on (show i))) n t
-    show-refused ne =
-        left-refused partIn refl t q n _ (refused-answer s (show i) n h ne) n (sym (ap (λ (q : Bool). cramped q (refusal n) .number) room))
-
-    pub show-given : n ≡ 0 → (l : List ℕ) → l ≡ filled t (partOf s i) → Due partIn t q (answerTo s (on (show i))) 0 l
-    show-given z l g =
-        subst (λ (q : Bool). Due partIn t q (answerTo s (on (show i))) 0 l) (sym room) (sym z ∙ h ∙ sym (answer-number s (show i)), g)

@@ -1,8 +1,8 @@
--- `gulambitok::number_by` meets its contract.
+-- `door::number_by` meets its contract.
 -- Assumes nothing.
-use Rattle.gulambitok.proofs.Given.{room-lacks, room-enough}
-use Rattle.gulambitok.proofs.number_by.Statement.{statement}
-use Rattle.gulambitok.proofs.number_by.Tie as tie
+use Rattle.door.proofs.Given.{room-lacks, room-enough}
+use Rattle.door.proofs.number_by.Statement.{statement}
+use Rattle.door.proofs.number_by.Tie as tie
 
 returns : tie.Need-returns
 returns c = let x = c .before .args in room-lacks (x .short) (x .number) (c .if1 .taken)

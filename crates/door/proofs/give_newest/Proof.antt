@@ -1,15 +1,15 @@
--- `gulambitok::give_newest` meets its contract.
+-- `door::give_newest` meets its contract.
 -- Assumes nothing.
 use Prim.Native.Nat.{ℕ}
 use mathlib.Core.Path.{refl, sym, ap}
 use mathlib.Core.List.{[], _∷_}
 use Rattle.rules.specs.Model.{relates}
 use Rattle.rules.specs.Replies.{comparedSays}
-use Rattle.gulambitok.specs.Door.{tooShort, whichIn}
-use Rattle.gulambitok.proofs.Given.{left-refused, gave-accepted}
+use Rattle.door.specs.Door.{tooShort, whichIn}
+use Rattle.door.proofs.Given.{left-refused, gave-accepted}
 use borrow.Author.Needs.{needs}
-use Rattle.gulambitok.proofs.give_newest.Statement.{statement}
-use Rattle.gulambitok.proofs.give_newest.Tie as tie
+use Rattle.door.proofs.give_newest.Statement.{statement}
+use Rattle.door.proofs.give_newest.Tie as tie
 
 enum-known-compared : tie.Need-enum-known-compared
 enum-known-compared c = search needs

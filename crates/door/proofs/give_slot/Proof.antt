@@ -1,13 +1,13 @@
--- `gulambitok::give_slot` meets its contract.
+-- `door::give_slot` meets its contract.
 -- Assumes nothing.
 use mathlib.Core.Path.{refl, sym, ap}
 use Rattle.rules.specs.Model.{slot}
 use Rattle.rules.specs.Replies.{keptSays}
-use Rattle.gulambitok.specs.Door.{tooShort, byteIn}
-use Rattle.gulambitok.proofs.Given.{left-refused, gave-accepted}
+use Rattle.door.specs.Door.{tooShort, byteIn}
+use Rattle.door.proofs.Given.{left-refused, gave-accepted}
 use borrow.Author.Needs.{needs}
-use Rattle.gulambitok.proofs.give_slot.Statement.{statement}
-use Rattle.gulambitok.proofs.give_slot.Tie as tie
+use Rattle.door.proofs.give_slot.Statement.{statement}
+use Rattle.door.proofs.give_slot.Tie as tie
 
 enum-known-kept : tie.Need-enum-known-kept
 enum-known-kept c = search needs

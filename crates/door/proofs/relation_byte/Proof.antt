@@ -1,8 +1,8 @@
--- `gulambitok::relation_byte` meets its contract.
+-- `door::relation_byte` meets its contract.
 -- Assumes nothing.
 use borrow.Author.Needs.{needs}
-use Rattle.gulambitok.proofs.relation_byte.Statement.{statement}
-use Rattle.gulambitok.proofs.relation_byte.Tie as tie
+use Rattle.door.proofs.relation_byte.Statement.{statement}
+use Rattle.door.proofs.relation_byte.Tie as tie
 
 enum-told : tie.Need-enum-told
 enum-told c = search needs

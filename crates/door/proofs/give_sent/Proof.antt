@@ -1,11 +1,11 @@
--- `gulambitok::give_sent` meets its contract.
+-- `door::give_sent` meets its contract.
 -- Assumes nothing.
 use mathlib.Core.Path.{ap, _∙_}
 use Rattle.book.specs.Stamps.{filled}
-use Rattle.gulambitok.proofs.Given.{sent-refused, sent-given}
+use Rattle.door.proofs.Given.{sent-refused, sent-given}
 use borrow.Author.Needs.{needs}
-use Rattle.gulambitok.proofs.give_sent.Statement.{statement}
-use Rattle.gulambitok.proofs.give_sent.Tie as tie
+use Rattle.door.proofs.give_sent.Statement.{statement}
+use Rattle.door.proofs.give_sent.Tie as tie
 
 enum-known-posted : tie.Need-enum-known-posted
 enum-known-posted c = search needs

@@ -1,14 +1,14 @@
--- `gulambitok::give_told` meets its contract.
+-- `door::give_told` meets its contract.
 -- Assumes nothing.
 use mathlib.Core.Path.{refl, sym, ap}
 use Rattle.rules.specs.Model.{says}
 use mathlib.Core.Bool.{true, false}
 use Rattle.rules.specs.Replies.{toldSays}
-use Rattle.gulambitok.specs.Door.{tooShort, byteIn}
-use Rattle.gulambitok.proofs.Given.{left-refused, gave-accepted}
+use Rattle.door.specs.Door.{tooShort, byteIn}
+use Rattle.door.proofs.Given.{left-refused, gave-accepted}
 use borrow.Author.Needs.{needs}
-use Rattle.gulambitok.proofs.give_told.Statement.{statement}
-use Rattle.gulambitok.proofs.give_told.Tie as tie
+use Rattle.door.proofs.give_told.Statement.{statement}
+use Rattle.door.proofs.give_told.Tie as tie
 
 enum-told : tie.Need-enum-told
 enum-told c = search needs

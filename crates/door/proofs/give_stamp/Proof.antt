@@ -1,11 +1,11 @@
--- `gulambitok::give_stamp` meets its contract.
+-- `door::give_stamp` meets its contract.
 -- Assumes nothing.
 use mathlib.Core.Path.{ap, _∙_}
 use Rattle.book.specs.Stamps.{filled}
-use Rattle.gulambitok.proofs.Given.{stamp-refused, stamp-given}
+use Rattle.door.proofs.Given.{stamp-refused, stamp-given}
 use borrow.Author.Needs.{needs}
-use Rattle.gulambitok.proofs.give_stamp.Statement.{statement}
-use Rattle.gulambitok.proofs.give_stamp.Tie as tie
+use Rattle.door.proofs.give_stamp.Statement.{statement}
+use Rattle.door.proofs.give_stamp.Tie as tie
 
 returns : tie.Need-returns
 returns c = stamp-refused _ _ _ (c .if1 .taken)

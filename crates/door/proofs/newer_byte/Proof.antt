@@ -1,8 +1,8 @@
--- `gulambitok::newer_byte` meets its contract.
+-- `door::newer_byte` meets its contract.
 -- Assumes nothing.
 use borrow.Author.Needs.{needs}
-use Rattle.gulambitok.proofs.newer_byte.Statement.{statement}
-use Rattle.gulambitok.proofs.newer_byte.Tie as tie
+use Rattle.door.proofs.newer_byte.Statement.{statement}
+use Rattle.door.proofs.newer_byte.Tie as tie
 
 enum-told : tie.Need-enum-told
 enum-told c = search needs

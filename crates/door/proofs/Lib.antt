@@ -1,0 +1,2 @@
+-- The laws of lent buffers.
+pub mod Given

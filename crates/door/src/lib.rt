@@ -1,0 +1,172 @@
+// Answers for a caller in C: the paper's number, and the bytes of a value in front of a lent buffer. A buffer too short for it is
+// NoRoom, and then nothing changes.
+ghost use mathlib.Core.Path.{_≡_};
+ghost use mathlib.Core.List.{[], _∷_};
+ghost use Prim.Native.Nat.{_≤_};
+ghost use lib.ListN.{length};
+ghost use Rattle.tools.specs.Tests.{pick};
+ghost use Rattle.rules.specs.Model.{refusal};
+ghost use Rattle.rules.specs.Labels.{newer};
+ghost use Rattle.rules.specs.Replies.{stampedSays, postedSays, keptSays, toldSays, comparedSays};
+ghost use Rattle.book.specs.Stamps.{filled};
+ghost use Rattle.book.specs.Answers.{recordIn};
+ghost use Rattle.door.specs.Door.{setupBy, tooShort, cramped, given, relationByte, byteIn, whichByte, whichIn};
+use rules::Compared;
+use rules::Kept;
+use rules::Posted;
+use rules::Relation;
+use rules::Sent;
+use rules::Setup;
+use rules::Stamped;
+use rules::Told;
+
+// The number of a call, with NoRoom as one more reason where a lent buffer is too short.
+pub fn number_by(short: bool, number: u8) -> u8
+    ensures { λ r. ⌜ r ≡ cramped short (refusal number) .number ⌝ }
+{
+    if short & ((number == rules::DONE) | (rules::NO_ROOM < number)) {
+        return rules::NO_ROOM;
+    }
+    number
+}
+
+// The one byte of an accepted call's value.
+fn give_byte(target: &mut [u8], value: u8) -> u8
+    ensures { λ r. ⌜ r ≡ cramped (tooShort 1 (now (target .entry))) (refusal 0) .number ⌝ }
+    ensures { λ _. ⌜ now (target .exit) ≡ pick (tooShort 1 (now (target .entry))) (now (target .entry))
+        (filled (now (target .entry)) (value ∷ [])) ⌝ }
+{
+    if target.len() < 1 {
+        return rules::NO_ROOM;
+    }
+    let one = [value];
+    parts::lend(target, &one);
+    rules::DONE
+}
+
+pub fn give_told(target: &mut [u8], told: Told) -> u8
+    ensures { λ r. ⌜ r ≡ cramped (tooShort 1 (now (target .entry))) (toldSays told) .number ⌝ }
+    ensures { λ _. ⌜ now (target .exit)
+        ≡ given byteIn (now (target .entry)) (tooShort 1 (now (target .entry))) (toldSays told) ⌝ }
+{
+    match told {
+        Told::Yes => give_byte(target, 1),
+        Told::No => give_byte(target, 0),
+        Told::Refused(n) => number_by(target.len() < 1, n),
+    }
+}
+
+fn relation_byte(relation: Relation) -> u8
+    ensures { λ r. ⌜ r ≡ relationByte relation ⌝ }
+{
+    match relation {
+        Relation::Before => 1,
+        Relation::After => 2,
+        Relation::Same => 3,
+        Relation::Concurrent => 4,
+        Relation::Crossed => 5,
+    }
+}
+
+pub fn give_relation(target: &mut [u8], compared: Compared) -> u8
+    ensures { λ r. ⌜ r ≡ cramped (tooShort 1 (now (target .entry))) (comparedSays compared) .number ⌝ }
+    ensures { λ _. ⌜ now (target .exit)
+        ≡ given byteIn (now (target .entry)) (tooShort 1 (now (target .entry))) (comparedSays compared) ⌝ }
+{
+    match compared {
+        Compared::Is(relation) => give_byte(target, relation_byte(relation)),
+        Compared::Refused(n) => number_by(target.len() < 1, n),
+    }
+}
+
+// 1 for the first of two, 2 for the second, 0 for neither.
+fn newer_byte(relation: Relation) -> u8
+    ensures { λ r. ⌜ r ≡ whichByte (newer relation) ⌝ }
+{
+    match relation {
+        Relation::Before => 2,
+        Relation::After => 1,
+        Relation::Same => 1,
+        Relation::Concurrent => 0,
+        Relation::Crossed => 0,
+    }
+}
+
+pub fn give_newest(target: &mut [u8], compared: Compared) -> u8
+    ensures { λ r. ⌜ r ≡ cramped (tooShort 1 (now (target .entry))) (comparedSays compared) .number ⌝ }
+    ensures { λ _. ⌜ now (target .exit)
+        ≡ given whichIn (now (target .entry)) (tooShort 1 (now (target .entry))) (comparedSays compared) ⌝ }
+{
+    match compared {
+        Compared::Is(relation) => give_byte(target, newer_byte(relation)),
+        Compared::Refused(n) => number_by(target.len() < 1, n),
+    }
+}
+
+pub fn give_slot(target: &mut [u8], kept: Kept) -> u8
+    ensures { λ r. ⌜ r ≡ cramped (tooShort 1 (now (target .entry))) (keptSays kept) .number ⌝ }
+    ensures { λ _. ⌜ now (target .exit)
+        ≡ given byteIn (now (target .entry)) (tooShort 1 (now (target .entry))) (keptSays kept) ⌝ }
+{
+    match kept {
+        Kept::Slot(s) => give_byte(target, s),
+        Kept::Refused(n) => number_by(target.len() < 1, n),
+    }
+}
+
+// The stamp of an accepted event as a record.
+pub fn give_stamp(target: &mut [u8], desks: u8, stamped: Stamped) -> u8
+    requires { ⌜ 20 ≤ length (now target) ⌝ }
+    ensures { λ r. ⌜ r ≡ stampedSays stamped .number ⌝ }
+    ensures { λ _. ⌜ now (target .exit) ≡ filled (now (target .entry)) (recordIn desks (stampedSays stamped .value)) ⌝ }
+{
+    if stamped.number != rules::DONE {
+        return stamped.number;
+    }
+    let stamp = stamped.stamp;
+    let bytes = labels::record_of(desks, stamp);
+    parts::lend(target, &bytes);
+    rules::DONE
+}
+
+// The stamp of an accepted send as a record, and its place.
+pub fn give_sent(stamp: &mut [u8], place: &mut [u8], desks: u8, sent: Sent) -> u8
+    requires { ⌜ (20 ≤ length (now stamp)) × (1 ≤ length (now place)) ⌝ }
+    ensures { λ r. ⌜ r ≡ postedSays (sent .place) (sent .stamp) .number ⌝ }
+    ensures { λ _. ⌜ now (stamp .exit)
+        ≡ filled (now (stamp .entry)) (recordIn desks (postedSays (sent .place) (sent .stamp) .value)) ⌝ }
+    ensures { λ _. ⌜ now (place .exit) ≡ filled (now (place .entry)) (byteIn (postedSays (sent .place) (sent .stamp) .value)) ⌝ }
+{
+    let posted = sent.place;
+    let own = sent.stamp;
+    match posted {
+        Posted::At(p) => {
+            let bytes = labels::record_of(desks, own);
+            parts::lend(stamp, &bytes);
+            give_byte(place, p)
+        }
+        Posted::Refused(n) => n,
+    }
+}
+
+pub fn setup_by(
+    desks: usize,
+    phases: usize,
+    clocks: usize,
+    seats: usize,
+    shelf: usize,
+    back: usize,
+    ahead: usize,
+) -> Setup
+    ensures { λ r. ⌜ r ≡ setupBy desks phases clocks seats shelf back ahead ⌝ }
+{
+    Setup {
+        desks: desks,
+        phases: phases,
+        clocks: clocks,
+        seatLag: seats,
+        shelfLag: shelf,
+        back: back,
+        ahead: ahead,
+    }
+}
