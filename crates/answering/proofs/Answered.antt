@@ -1,18 +1,21 @@
 -- What one line does on a book.
 -- Assumes nothing.
---   few          where an act is accepted, the book has at most eight desks
+--   printable    the answer to an act has room for the pairs of the book's desks
 --   same-book    an act that changes no table leaves every byte
+--   Obeyed       what a command prints from a place on, and the book that it leaves
+--   printed      a command is obeyed by its call and by printing the answer, with the desks of the book
+--   printed-any  the same of an answer that is printed alike for any desks
 --   blind        a line's answer goes by the bytes of it that are kept
 --   bad-line     a BadLine prints its number, and makes no call
 --   long-line, no-line   a line over 64 bytes, and an empty one, is a BadLine
 use Prim.Native.Nat.{ℕ, zero, suc, _≤_, _<_}
-use mathlib.Core.Path.{_≡_, refl, sym, ap}
+use mathlib.Core.Path.{_≡_, refl, sym, ap, _∙_}
 use mathlib.Core.Bool.{Bool, true, false}
 use mathlib.Core.List.{List, [], _∷_, _++_}
 use native.Mathlib.Omega.{arith}
 use lib.ListN.{length}
 use Rattle.tools.specs.Lists.{byte}
-use Rattle.rules.specs.Model.{Act}
+use Rattle.rules.specs.Model.{Act, Answer}
 use Rattle.rules.specs.Calls.{on}
 use Rattle.book.specs.Sound.{sound}
 use Rattle.book.specs.Answers.{admits, answerTo, bookAfter}
@@ -22,12 +25,15 @@ use Rattle.book.proofs.Numbers.{doneOn, accepted-bytes, refused-bytes, ready}
 use Rattle.book.proofs.Told.{few-desks}
 use Rattle.text.proofs.Streams.{Blind}
 use Rattle.text.specs.Words.{ascii}
+use Rattle.text.specs.Put.{Wrote}
+use Rattle.commands.specs.declared.Command.{Command}
 use Rattle.commands.specs.declared.Command.the-variants.{Bad}
-use Rattle.commands.specs.Lines.{verbs, choose, parseOf}
+use Rattle.commands.specs.Lines.{verbs, choose, parseOf, callOf}
 use Rattle.commands.proofs.Shapes.{sift, long-bad, kept-enough}
-use Rattle.answering.specs.Answering.{commandText, commandBook, lineText, lineBook, answering}
+use Rattle.replies.specs.Print.{answerText, Printable}
+use Rattle.answering.specs.Answering.{answerOf, commandText, commandBook, lineText, lineBook, answering}
 
-pub few : (b : List ℕ) (c : Act) → answerTo b (on c) .number ≡ 0 → byte b 2 ≤ 8
+few : (b : List ℕ) (c : Act) → answerTo b (on c) .number ≡ 0 → byte b 2 ≤ 8
 unfolding answerTo admits
 few b c e = go (sound b) refl e
   where
@@ -35,12 +41,27 @@ few b c e = go (sound b) refl e
     go true h e = few-desks b h
     go false h e = absurd (omega (arith, rw (answerTo, h) at e))
 
+pub printable : (b : List ℕ) (c : Act) (D : ℕ) → D ≡ byte b 2 → (a : Answer) → a ≡ answerTo b (on c) → Printable D a
+printable b c D d a x e = omega (arith, few b c (ap (λ (y : Answer). y .number) (sym x) ∙ e))
+
 pub same-book : (s : List ℕ) (c : Act) → doneOn s c .tables ≡ tablesOf s → s ≡ bookAfter s (on c)
 same-book s c t = go (numberOf s c) refl
   where
     go : (n : ℕ) → numberOf s c ≡ n → s ≡ bookAfter s (on c)
     go zero e = accepted-bytes s c e s (rw t (decode-holds s (ready s c e .0)))
     go (suc n) e = refused-bytes s c (suc n) (sym e) (λ z. omega arith)
+
+abbrev pub Obeyed : List ℕ → List ℕ → ℕ → Command → List ℕ → List ℕ → ℕ → Type 0
+Obeyed b o at m b′ o′ r = Wrote o at (commandText b m) o′ r × (b′ ≡ commandBook b m)
+
+module _ (b o : List ℕ) (at : ℕ) (m n : Command) (e : m ≡ n) (b′ o′ : List ℕ) (r : ℕ) (a : Answer) where
+  pub printed : a ≡ answerOf b (callOf n) → b′ ≡ commandBook b n → (D : ℕ) → D ≡ byte b 2 → Wrote o at (answerText D a) o′ r
+      → Obeyed b o at m b′ o′ r
+  printed x g D d w = (rw (e, sym x, sym d) w, rw e g)
+
+  pub printed-any : a ≡ answerOf b (callOf n) → b′ ≡ commandBook b n → ((D : ℕ) → Wrote o at (answerText D a) o′ r)
+      → Obeyed b o at m b′ o′ r
+  printed-any x g w = printed x g (byte b 2) refl (w (byte b 2))
 
 pub blind : Blind answering
 unfolding lineText lineBook
