@@ -30,14 +30,16 @@ unfolding orNoRoom
 room-enough true n e = rw (orNoRoom, e)
 room-enough false n e = refl
 
--- one byte, in a buffer that has none and in one that has some
-pub byte-short : (t w : List ℕ) → length t < 1 → (15 ≡ cramped (tooShort 1 t) (refusal 0) .number) × (t ≡ pick (tooShort 1 t) t (filled t w))
-unfolding orNoRoom
-byte-short t w l = rw (lt-ltb (length t) 1 l) (refl, refl)
+-- one byte v, in a buffer that has none and in one that has some
+abbrev Gave : List ℕ → ℕ → ℕ → List ℕ → Type 0
+Gave t v r l = (r ≡ cramped (tooShort 1 t) (refusal 0) .number) × (l ≡ pick (tooShort 1 t) t (filled t (v ∷ [])))
 
-pub byte-given : (t w l : List ℕ) → 1 ≤ length t → l ≡ filled t w
-    → (0 ≡ cramped (tooShort 1 t) (refusal 0) .number) × (l ≡ pick (tooShort 1 t) t (filled t w))
-byte-given t w l m e = rw (le-ltb (length t) 1 m) (refl, e)
+pub byte-short : (t : List ℕ) (v : ℕ) → length t < 1 → Gave t v 15 t
+unfolding orNoRoom
+byte-short t v l = rw (lt-ltb (length t) 1 l) (refl, refl)
+
+pub byte-given : (t : List ℕ) (v : ℕ) (l : List ℕ) → 1 ≤ length t → l ≡ filled t (v ∷ []) → Gave t v 0 l
+byte-given t v l m e = rw (le-ltb (length t) 1 m) (refl, e)
 
 -- the number r and the buffer l are due to a call that is answered a, with the buffer t lent to it
 abbrev pub Due : (Value → List ℕ) → List ℕ → Bool → Answer → ℕ → List ℕ → Type 0
@@ -48,35 +50,43 @@ module _ (f : Value → List ℕ) (none : f nothing ≡ []) (t : List ℕ) where
   as-it-was = sym (ap (filled t) none ∙ filled-none t)
 
   -- a refusal
-  pub left-refused : (q : Bool) (n : ℕ) (a : Answer) → refusal n ≡ a → (r : ℕ) → r ≡ cramped q (refusal n) .number → Due f t q a r t
-  left-refused q n a e r h = subst (λ (b : Answer). Due f t q b r t) e (h, go q)
+  pub left-refused : (q : Bool) (n : ℕ) (a : Answer) → a ≡ refusal n → (r : ℕ) → r ≡ cramped q (refusal n) .number → Due f t q a r t
+  left-refused q n a e r h = subst (λ (b : Answer). Due f t q b r t) (sym e) (h, go q)
     where
       go : (q : Bool) → t ≡ given f t q (refusal n)
       go true = as-it-was
       go false = as-it-was
 
-  -- an acceptance, whose value has the bytes w
-  pub gave-accepted : (q : Bool) (v : Value) (a : Answer) → accepted v ≡ a → (w : List ℕ) → w ≡ f v → (r : ℕ) (l : List ℕ)
-      → (r ≡ cramped q (refusal 0) .number) × (l ≡ pick q t (filled t w)) → Due f t q a r l
-  gave-accepted q v a e w x r l d =
-      subst (λ (b : Answer). Due f t q b r l) e (d .0 ∙ number q, d .1 ∙ ap (λ (y : List ℕ). pick q t (filled t y)) x ∙ bytes q)
+  pub byte-refused : (n : ℕ) (a : Answer) → a ≡ refusal n → (r : ℕ) → r ≡ cramped (tooShort 1 t) (refusal n) .number
+      → Due f t (tooShort 1 t) a r t
+  byte-refused = left-refused (tooShort 1 t)
+
+  -- an acceptance, whose value is the byte u
+  pub byte-accepted : (v : Value) (a : Answer) → a ≡ accepted v → (u w : ℕ) → f v ≡ u ∷ [] → w ≡ u → (r : ℕ) (l : List ℕ)
+      → Gave t w r l → Due f t (tooShort 1 t) a r l
+  byte-accepted v a e u w x h r l d =
+      subst (λ (b : Answer). Due f t (tooShort 1 t) b r l) (sym e)
+      (d .0 ∙ number (tooShort 1 t), d .1 ∙ ap (λ (y : ℕ). pick (tooShort 1 t) t (filled t (y ∷ []))) h ∙ bytes (tooShort 1 t))
     where
       number : (q : Bool) → cramped q (refusal 0) .number ≡ cramped q (accepted v) .number
       number true = refl
       number false = refl
 
-      bytes : (q : Bool) → pick q t (filled t (f v)) ≡ given f t q (accepted v)
+      bytes : (q : Bool) → pick q t (filled t (u ∷ [])) ≡ given f t q (accepted v)
       bytes true = as-it-was
-      bytes false = refl
+      bytes false = ap (filled t) (sym x)
 
 -- the stamp of a refused event, and of an accepted one
 module _ (x : Stamped) (D : ℕ) (t : List ℕ) where
-  pub stamp-refused : (x .number ≡ 0 → ⊥) → (x .number ≡ stampedSays x .number) × (t ≡ filled t (recordIn D (stampedSays x .value)))
+  abbrev Stamps : ℕ → List ℕ → Type 0
+  Stamps r l = (r ≡ stampedSays x .number) × (l ≡ filled t (recordIn D (stampedSays x .value)))
+
+  pub stamp-refused : (x .number ≡ 0 → ⊥) → Stamps (x .number) t
   unfolding stampedSays
   stamp-refused ne = rw (ne-eqb (x .number) 0 ne) (refl, as-it-was (recordIn D) refl t)
 
-  pub stamp-given : x .number ≡ 0 → (l : List ℕ) → l ≡ filled t (writeStamp D (record { owner = x .stamp .owner; row = rowOf (x .stamp .row) }))
-      → (0 ≡ stampedSays x .number) × (l ≡ filled t (recordIn D (stampedSays x .value)))
+  pub stamp-given : x .number ≡ 0 → (l : List ℕ)
+      → l ≡ filled t (writeStamp D (record { owner = x .stamp .owner; row = rowOf (x .stamp .row) })) → Stamps 0 l
   unfolding stampedSays
   stamp-given e l h = rw e (refl, h)
 
@@ -92,8 +102,7 @@ module _ (m : Posted) (x : Stamp) (D : ℕ) (t u : List ℕ) where
       subst (λ (m : Posted). Sends m n t u) (sym e) (refl, (as-it-was (recordIn D) refl t, as-it-was byteIn refl u))
 
   pub sent-given : (p : ℕ) → m ≡ Posts.At p → 1 ≤ length u → (r : ℕ) (l k : List ℕ)
-      → l ≡ filled t (writeStamp D (record { owner = x .owner; row = rowOf (x .row) }))
-      → (r ≡ cramped (tooShort 1 u) (refusal 0) .number) × (k ≡ pick (tooShort 1 u) u (filled u (p ∷ []))) → Sends m r l k
+      → l ≡ filled t (writeStamp D (record { owner = x .owner; row = rowOf (x .row) })) → Gave u p r k → Sends m r l k
   sent-given p e fit r l k h g =
       let q = le-ltb (length u) 1 fit in
       subst (λ (m : Posted). Sends m r l k) (sym e) (

@@ -8,18 +8,8 @@ use Rattle.door.proofs.give_byte.Tie as tie
 returns : tie.Need-returns
 returns c = byte-short _ _ (c .if1 .taken)
 
-slice-aggregate-lend : tie.Need-slice-aggregate-lend
-slice-aggregate-lend c = search needs
-
-lend-requires : tie.Need-lend-requires
-lend-requires c κs = search needs
-
-same-length : tie.Need-same-length
-same-length c = search needs
-
 returns-2 : tie.Need-returns-2
 returns-2 c = byte-given _ _ _ (c .before .before .before .before .before .if1 .left) (c .before .before .lend .ensures)
 
 pub give-byte-spec : {M : Type 1} → statement M
-give-byte-spec =
-    tie.close (tie.spec returns slice-aggregate-lend lend-requires same-length returns-2)
+give-byte-spec = tie.close (tie.spec returns (λ c. search needs) (λ c κs. search needs) (λ c. search needs) returns-2)

@@ -1,52 +1,24 @@
 -- `door::give_relation` meets its contract.
 -- Assumes nothing.
-use Prim.Native.Nat.{ℕ}
-use mathlib.Core.Path.{refl, sym, ap}
-use mathlib.Core.List.{[], _∷_}
-use Rattle.rules.specs.Model.{relates}
+use mathlib.Core.Path.{refl, ap}
 use Rattle.rules.specs.Replies.{comparedSays}
-use Rattle.door.specs.Door.{tooShort, byteIn}
-use Rattle.door.proofs.Given.{left-refused, gave-accepted}
+use Rattle.door.specs.Door.{byteIn}
+use Rattle.door.proofs.Given.{byte-refused, byte-accepted}
 use borrow.Author.Needs.{needs}
 use Rattle.door.proofs.give_relation.Statement.{statement}
 use Rattle.door.proofs.give_relation.Tie as tie
 
-enum-known-compared : tie.Need-enum-known-compared
-enum-known-compared c = search needs
-
-relation-byte-requires : tie.Need-relation-byte-requires
-relation-byte-requires c κs = search needs
-
-give-byte-requires : tie.Need-give-byte-requires
-give-byte-requires c κs = search needs
-
-enum-known-compared-2 : tie.Need-enum-known-compared-2
-enum-known-compared-2 c = search needs
-
-number-by-requires : tie.Need-number-by-requires
-number-by-requires c κs = search needs
-
-same-length : tie.Need-same-length
-same-length c = search needs
-
 returns : tie.Need-returns
 returns c =
-    let x = c .before .before .before .before .before .before .compared .given in
-    let t = c .before .before .before .before .before .before .before .before .before .args .target .now in
-    gave-accepted byteIn refl t (tooShort 1 t) (relates (x .0 .0)) _ (sym (ap comparedSays (x .1))) _ (ap (λ (b : ℕ). b ∷ []) (c .before .before .before .relation-byte .ensures)) _ _ (c .before .before .give-byte .ensures)
+    byte-accepted byteIn refl _ _ _ (ap comparedSays (c .before .before .before .before .before .before .compared .given .1)) _ _ refl
+    (c .before .before .before .relation-byte .ensures) _ _ (c .before .before .give-byte .ensures)
 
 returns-2 : tie.Need-returns-2
-returns-2 c = let t = c .before .before .before .before .before .args .target .now in left-refused byteIn refl t (tooShort 1 t) _ _ (sym (ap comparedSays (c .before .before .compared2 .given .1))) _ (c .number-by .ensures)
+returns-2 c = byte-refused byteIn refl _ _ _ (ap comparedSays (c .before .before .compared2 .given .1)) _ (c .number-by .ensures)
 
 pub give-relation-spec : {M : Type 1} → statement M
 give-relation-spec =
     tie.close
     (tie.spec
-    enum-known-compared
-    relation-byte-requires
-    give-byte-requires
-    enum-known-compared-2
-    number-by-requires
-    same-length
-    returns
-    returns-2)
+    (λ c. search needs) (λ c κs. search needs) (λ c κs. search needs) (λ c. search needs) (λ c κs. search needs)
+    (λ c. search needs) returns returns-2)

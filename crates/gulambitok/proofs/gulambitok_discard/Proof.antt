@@ -6,14 +6,8 @@ use borrow.Author.Needs.{needs}
 use Rattle.gulambitok.proofs.gulambitok_discard.Statement.{statement}
 use Rattle.gulambitok.proofs.gulambitok_discard.Tie as tie
 
-discard-requires : tie.Need-discard-requires
-discard-requires c κs = search needs
-
-same-length : tie.Need-same-length
-same-length c = search needs
-
 returns : tie.Need-returns
 returns c = let w = c .before .before .discard .ensures in (ap (λ (a : Answer). a .number) (w .0), w .1)
 
 pub gulambitok-discard-spec : {M : Type 1} → statement M
-gulambitok-discard-spec = tie.close (tie.spec discard-requires same-length returns)
+gulambitok-discard-spec = tie.close (tie.spec (λ c κs. search needs) (λ c. search needs) returns)

@@ -1,33 +1,14 @@
 -- `gulambitok::gulambitok_label_compare` meets its contract.
 -- Assumes nothing.
-use mathlib.Core.Path.{ap, _∙_}
-use Rattle.rules.specs.declared.Setup.{Setup}
-use Rattle.book.specs.Answers.{compareOf}
-use Rattle.door.specs.Door.{tooShort, byteIn}
-use Rattle.gulambitok.proofs.Called.{due-as}
 use borrow.Author.Needs.{needs}
 use Rattle.gulambitok.proofs.gulambitok_label_compare.Statement.{statement}
 use Rattle.gulambitok.proofs.gulambitok_label_compare.Tie as tie
 
-setup-by-requires : tie.Need-setup-by-requires
-setup-by-requires c κs = search needs
-
-compare-requires : tie.Need-compare-requires
-compare-requires c κs = search needs
-
-give-relation-requires : tie.Need-give-relation-requires
-give-relation-requires c κs = search needs
-
-same-length : tie.Need-same-length
-same-length c = search needs
-
 returns : tie.Need-returns
 returns c =
-    let x = c .before .before .before .before .before .before .before .before .before .args in
-    due-as byteIn (x .answer .now) (tooShort 1 (x .answer .now)) _ _ _ _
-    (c .before .before .before .compare .ensures ∙ ap (λ (X : Setup). compareOf X (x .first .now) (x .second .now)) (c .before .before .before .before .before .setup-by .ensures)) (c .before .before .give-relation .ensures)
+    rw (c .before .before .before .compare .ensures, c .before .before .before .before .before .setup-by .ensures)
+    at (c .before .before .give-relation .ensures)
 
 pub gulambitok-label-compare-spec : {M : Type 1} → statement M
 gulambitok-label-compare-spec =
-    tie.close
-    (tie.spec setup-by-requires compare-requires give-relation-requires same-length returns)
+    tie.close (tie.spec (λ c κs. search needs) (λ c κs. search needs) (λ c κs. search needs) (λ c. search needs) returns)
