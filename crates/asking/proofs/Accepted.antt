@@ -126,7 +126,8 @@ module _ (s : List ℕ) (i k : ℕ) where
     pub before-two : Two s i k
     before-two = before-clear .0
 
-    pub before-answered : (w : Way) → WayBetween s i k w → (j l : ℕ) → j ≡ byIn (tablesOf s .shelf i) → l ≡ byIn (tablesOf s .shelf k) → (t : Bool)
+    pub before-answered : (w : Way) → WayBetween s i k w → (j l : ℕ) → j ≡ byIn (tablesOf s .shelf i) → l ≡ byIn (tablesOf s .shelf k)
+        → (t : Bool)
         → ((e f : Row) → Clocked w j e f → t ≡ isBefore (gapOf w) j l e f) → accepted (says t) ≡ answerTo s (on (before i k))
     unfolding done
     before-answered w h j l p q t asked =
@@ -191,7 +192,8 @@ module _ (s : List ℕ) (i : ℕ) where
   write-due room n e ne = due s i i n e ne (pick (ltb room 20) 15 0)
       ∙ ap (λ (t : Bool). pick (sound s) (pick t 5 (pick (ltb room 20) 15 0)) 1) (sym twice)
 
-  pub write-number : (room : ℕ) → slotsNumber s i i ≡ 0 → (u : Bool) → ltb room 20 ≡ u → pick u (number NoRoom) 0 ≡ numberOf s (write i room)
+  pub write-number : (room : ℕ) → slotsNumber s i i ≡ 0 → (u : Bool) → ltb room 20 ≡ u
+      → pick u (number NoRoom) 0 ≡ numberOf s (write i room)
   unfolding reasons
   write-number room e u q =
       let h = slots-two s i i e in
@@ -217,7 +219,8 @@ module _ (s : List ℕ) (i : ℕ) where
       let o = show-one e in
       let l = slot-place s i (o .used) in
       part-tab 16 (spot (40 + i) 4) s (omega (arith, l, sound-size s (o .whole))) ∙ row-there s (40 + i)
-      ∙ row-read s (40 + i) ∙ ap rowBytes (sym (slot-row s i (o .used))) ∙ ap (λ (a : Answer). partIn (a .value)) (accepted-answer s (show i) e)
+      ∙ row-read s (40 + i) ∙ ap rowBytes (sym (slot-row s i (o .used)))
+      ∙ ap (λ (a : Answer). partIn (a .value)) (accepted-answer s (show i) e)
 
   -- the record that write fills in
   pub write-record : (room : ℕ) → numberOf s (write i room) ≡ 0 → (D o : ℕ) (row : List ℕ) → D ≡ byte s 2 → o ≡ byIn (tablesOf s .shelf i)
@@ -226,6 +229,7 @@ module _ (s : List ℕ) (i : ℕ) where
   unfolding done
   write-record room e D o row d p q =
       let r : rowOf row ≡ rowIn (tablesOf s .shelf i)
-      = ap rowOf (q ∙ row-read s (40 + i)) ∙ row-of-bytes (readRow (rowAt s (40 + i))) (λ k l. rw (le-ltb k 8 l)) ∙ sym (slot-row s i (write-one room e .used)) in
+      = ap rowOf (q ∙ row-read s (40 + i)) ∙ row-of-bytes (readRow (rowAt s (40 + i))) (λ k l. rw (le-ltb k 8 l))
+      ∙ sym (slot-row s i (write-one room e .used)) in
       (λ x. writeStamp (d x) (record { owner = p x; row = r x }))
       ∙ ap (λ (a : Answer). recordIn (byte s 2) (a .value)) (accepted-answer s (write i room) e)

@@ -104,7 +104,8 @@ after-decode s c a =
     go (suc n) e = sym (turn-same s c (λ z. omega arith))
 
 -- every accepted call leaves a sound book, and no call spoils one
-pub after-sound : (s : List ℕ) (c : Call) → admits s c ≡ true → (turnOn s c .answer .number ≡ 0) ⊎ (sound s ≡ true) → sound (bookAfter s c) ≡ true
+pub after-sound : (s : List ℕ) (c : Call) → admits s c ≡ true → (turnOn s c .answer .number ≡ 0) ⊎ (sound s ≡ true)
+    → sound (bookAfter s c) ≡ true
 unfolding bookAfter
 after-sound s c a h =
     ap (λ (d : Answer). sound (leaves (d .number) s (encode (turnOn s c .book)))) (answer-is s c a)

@@ -66,7 +66,8 @@ module _ (X : Setup) (p : permits X ≡ true) (t : Tables) (w : Fits X t) (b : L
   row-ok B C k same lk r e f =
       all-in (columnOk (fields b) B k) 8
       (λ j l.
-      rw (columnOk, setup-told, own-told j l, pair-is F b h k j lk l ∙ ap (λ (ρ : Row). ρ j) e, same) (pair-ok X C (phases t j) j (r j) (f j)))
+      rw (columnOk, setup-told, own-told j l, pair-is F b h k j lk l ∙ ap (λ (ρ : Row). ρ j) e, same)
+      (pair-ok X C (phases t j) j (r j) (f j)))
 
   zero-ok : (k : ℕ) → k < 72 → recordOf t k .row ≡ zeros → rowZero (fields b) k ≡ true
   unfolding rowZero columnZero allOf
@@ -129,8 +130,10 @@ module _ (X : Setup) (p : permits X ≡ true) (t : Tables) (w : Fits X t) (b : L
           let c : byte b (spot (8 + q) 3) ≡ 0 = tagB-is F b h (8 + q) (omega arith) ∙ ap (λ (r : Record). r .tagB) kept ∙ ap tagTo e in
           rw (mailOk, a, c, zero-ok (8 + q) (omega arith) (ap (λ (r : Record). r .row) kept ∙ ap rowIn e))
       go (some m) e f =
-          let a : byte b (spot (8 + q) 2) ≡ m .by + 1 = tagA-is F b h (8 + q) (omega arith) ∙ ap (λ (r : Record). r .tagA) kept ∙ ap tagBy e in
-          let c : byte b (spot (8 + q) 3) ≡ m .to + 1 = tagB-is F b h (8 + q) (omega arith) ∙ ap (λ (r : Record). r .tagB) kept ∙ ap tagTo e in
+          let a : byte b (spot (8 + q) 2) ≡ m .by + 1 = tagA-is F b h (8 + q) (omega arith) ∙ ap (λ (r : Record). r .tagA) kept
+          ∙ ap tagBy e in
+          let c : byte b (spot (8 + q) 3) ≡ m .to + 1 = tagB-is F b h (8 + q) (omega arith) ∙ ap (λ (r : Record). r .tagB) kept
+          ∙ ap tagTo e in
           let d = f .differ in
           let x = f .by in
           let y = f .to in
@@ -143,7 +146,8 @@ module _ (X : Setup) (p : permits X ≡ true) (t : Tables) (w : Fits X t) (b : L
             le-leb 1 (m .to + 1) (omega arith),
             le-leb (m .to + 1) (byte b 2) (omega (arith, y, desks-told)),
             ne-eqb (m .by + 1) (m .to + 1) (λ z. d (omega arith)),
-            row-ok (2 * byte b 5) (2 * X .seatLag) (8 + q) (ap (λ n. 2 * n) seat-lag-told) (omega arith) (m .row) (ap (λ (r : Record). r .row) kept ∙ ap rowIn e) (f .row),
+            row-ok (2 * byte b 5) (2 * X .seatLag) (8 + q) (ap (λ n. 2 * n) seat-lag-told) (omega arith) (m .row)
+                (ap (λ (r : Record). r .row) kept ∙ ap rowIn e) (f .row),
           )
 
   slot-ok : (q : ℕ) → q < 32 → slotOk (fields b) (40 + q) ≡ true
@@ -161,7 +165,8 @@ module _ (X : Setup) (p : permits X ≡ true) (t : Tables) (w : Fits X t) (b : L
           let a : byte b (spot (40 + q) 2) ≡ 0 = tagA-is F b h (40 + q) (omega arith) ∙ ap (λ (r : Record). r .tagA) kept ∙ ap tagBy e in
           rw (slotOk, a, filler, zero-ok (40 + q) (omega arith) (ap (λ (r : Record). r .row) kept ∙ ap rowIn e))
       go (some m) e f =
-          let a : byte b (spot (40 + q) 2) ≡ m .by + 1 = tagA-is F b h (40 + q) (omega arith) ∙ ap (λ (r : Record). r .tagA) kept ∙ ap tagBy e in
+          let a : byte b (spot (40 + q) 2) ≡ m .by + 1 = tagA-is F b h (40 + q) (omega arith) ∙ ap (λ (r : Record). r .tagA) kept
+          ∙ ap tagBy e in
           let x = f .by in
           rw (
             slotOk,
@@ -169,7 +174,8 @@ module _ (X : Setup) (p : permits X ≡ true) (t : Tables) (w : Fits X t) (b : L
             filler,
             ne-eqb (m .by + 1) 0 (omega arith),
             le-leb (m .by + 1) (byte b 2) (omega (arith, x, desks-told)),
-            row-ok (byte b 6) (X .shelfLag) (40 + q) shelf-lag-told (omega arith) (m .row) (ap (λ (r : Record). r .row) kept ∙ ap rowIn e) (f .row),
+            row-ok (byte b 6) (X .shelfLag) (40 + q) shelf-lag-told (omega arith) (m .row) (ap (λ (r : Record). r .row) kept ∙ ap rowIn e)
+                (f .row),
           )
 
   record-ok : (k : ℕ) → k < 72 → recordOk (fields b) k ≡ true

@@ -70,7 +70,9 @@ module _ (b : List ℕ) (size : length b ≡ 1456) (k x y : ℕ) (lk : k < 72) (
 
   pub post-A : byte (post b k x y (rowBytes r)) (spot k 2) ≡ x
   unfolding post
-  post-A = getD-set-other (set rowed (spot k 2) x) (spot k 3) (spot k 2) y 0 (omega arith) ∙ getD-set-same rowed (spot k 2) x 0 (omega (arith, rowed-length))
+  post-A =
+      getD-set-other (set rowed (spot k 2) x) (spot k 3) (spot k 2) y 0 (omega arith)
+      ∙ getD-set-same rowed (spot k 2) x 0 (omega (arith, rowed-length))
 
   pub post-B : byte (post b k x y (rowBytes r)) (spot k 3) ≡ y
   unfolding post
@@ -95,7 +97,8 @@ post-holds f b h k lk r =
       head = λ i l. h .head i l ∙ sym (post-head b (h .size) k (r .tagA) (r .tagB) lk (r .row) i l);
       there =
           λ i c li lc.
-          put-all (λ i (q : Record). i < 72 → recordByte i q c ≡ byte (post b k (r .tagA) (r .tagB) (rowBytes (r .row))) (spot i c)) (f .at) k r
+          put-all (λ i (q : Record). i < 72 → recordByte i q c ≡ byte (post b k (r .tagA) (r .tagB) (rowBytes (r .row))) (spot i c))
+          (f .at) k r
           (λ l. here c lc)
           (λ i ne l. h .there i c l lc ∙ sym (post-other b (h .size) k (r .tagA) (r .tagB) lk (r .row) i c lc (λ e z. ne e))) i li;
     }

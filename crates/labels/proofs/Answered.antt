@@ -132,7 +132,8 @@ module _ (X : Setup) (a b : List ℕ) (j : ℕ) (l : List ℕ) (k : ℕ) (m : Li
   -- so they can be asked
   pub can-ask : (w v : Way) → WayOf X (gapOff X j (rowOf l) (rowOf m)) j (rowOf l) (rowOf m) w
       → WayOf X (gapOff X k (rowOf m) (rowOf l)) k (rowOf m) (rowOf l) v → Between X (readStamp X a) (readStamp X b) j k w v
-  can-ask w v t u = rw (h .one, h .two) (record { fair = h .permit; one = refl; two = refl; first = refl; second = refl; there = t; back = u })
+  can-ask w v t u =
+      rw (h .one, h .two) (record { fair = h .permit; one = refl; two = refl; first = refl; second = refl; there = t; back = u })
 
 -- two records as they read, and what is asked of them
 module _ (X : Setup) (e f : Option Label) where

@@ -87,7 +87,8 @@ posted s mail = record { seat = tablesOf s .seat; mail = mail; shelf = tablesOf 
 
 -- an event at j that leaves row r: b has the mail already, and j's seat is written
 module _ (s : List ℕ) (c : Act) (e : numberOf s c ≡ 0) (j : ℕ) (l : j < 8) (r : Row) (mail : ℕ → Option Held) (v : Value)
-    (d : doneOn s c ≡ event (tablesOf s) j r mail v) (b : List ℕ) (h : Holds (write (record { setup = setupOf s; tables = posted s mail })) b)
+    (d : doneOn s c ≡ event (tablesOf s) j r mail v) (b : List ℕ)
+    (h : Holds (write (record { setup = setupOf s; tables = posted s mail })) b)
     (row : List ℕ) (er : row ≡ rowBytes r) where
   event-left : (b′ : List ℕ) → b′ ≡ post b j 1 0 row → b′ ≡ bookAfter s (on c)
   event-left b′ eb =
@@ -113,7 +114,8 @@ module _ (s : List ℕ) (c : Act) (e : numberOf s c ≡ 0) (j : ℕ) (g : AtDesk
   abbrev after : Row
   after = put (tablesOf s .seat j .row) j q
 
-  seat-stamps : doneOn s c ≡ event (tablesOf s) j after (tablesOf s .mail) (stamp j after) → (x : Stamped) (row b : List ℕ) → x ≡ taken j row
+  seat-stamps : doneOn s c ≡ event (tablesOf s) j after (tablesOf s .mail) (stamp j after) → (x : Stamped) (row b : List ℕ)
+      → x ≡ taken j row
       → row ≡ rowBytes after → b ≡ post s j 1 0 row → Stamps s c x b
   seat-stamps d x row b ex er eb =
       event-stamps s c e j (g .eight) after (tablesOf s .mail) (stamp j after) d s (decode-holds s (g .whole)) row er

@@ -147,7 +147,8 @@ module _ (s : List ℕ) (X : Setup) (started : answerTo s (start X) .number ≡ 
           ongoing = k .ongoing;
           given =
               ap (λ (b : Book). stampGiven b (k .act)) (ring-book X fair (k .earlier) ∙ sym (w .told))
-              ∙ ap (λ (a : Answer). stampIn (ownerAt (decode then .tables) (slotOf (k .act))) (a .value)) (sym (answer-is then (on (k .act)) (w .whole)))
+              ∙ ap (λ (a : Answer). stampIn (ownerAt (decode then .tables) (slotOf (k .act))) (a .value))
+              (sym (answer-is then (on (k .act)) (w .whole)))
               ∙ k .given;
           event = k .event;
         }
@@ -171,7 +172,9 @@ module _ (s : List ℕ) (X : Setup) (started : answerTo s (start X) .number ≡ 
 
     -- and its record tells it again
     reads : readStamp (setupAfter X cs) r ≡ some (k .stamp)
-    reads = subst (λ (q : List ℕ). readStamp (setupAfter X cs) q ≡ some (k .stamp)) (k .written) (read-write (setupAfter X cs) few (k .stamp) in-range)
+    reads =
+        subst (λ (q : List ℕ). readStamp (setupAfter X cs) q ≡ some (k .stamp)) (k .written)
+        (read-write (setupAfter X cs) few (k .stamp) in-range)
 
   -- two records that the run has given out
   module _ (r q : List ℕ) (x y : ℕ) (a : Recorded s X cs r x) (c : Recorded s X cs q y) where

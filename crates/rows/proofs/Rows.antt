@@ -57,7 +57,8 @@ module _ (s : List ℕ) (j : ℕ) (l : j < 8) where
   pub grown-bytes : withPair (rowBytes (rowAt s j)) j (tick (rowAt s j j)) ≡ rowBytes (grownRow s j)
   grown-bytes =
       set-pair (rowAt s j) j l (tick (rowAt s j j))
-      ∙ put-alike (rowAt s j) (tablesOf s .seat j .row) j (tick (rowAt s j j)) (tick (own (tablesOf s) j)) (ap tick (sym (own-at s j l))) seat-at
+      ∙ put-alike (rowAt s j) (tablesOf s .seat j .row) j (tick (rowAt s j j)) (tick (own (tablesOf s) j))
+      (ap tick (sym (own-at s j l))) seat-at
 
   pub turned-bytes : withPair (rowBytes (rowAt s j)) j (turn (ringOf (setupOf s)) (rowAt s j j)) ≡ rowBytes (turnedRow s j)
   turned-bytes =

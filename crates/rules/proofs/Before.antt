@@ -61,7 +61,8 @@ module _ (X : Setup) (h : Log) (c : Causal X h) (x y : ℕ) (lx : x < h .count) 
     λ l. from (c .sound x y lx ly (inr l)) (ltb (seen X h x x) (seen X h x y)) refl,
   )
     where
-      le : (u : Bool) → ltb (seen X h x x) (seen X h x y) ≡ u → (u || eqb (seen X h x x) (seen X h x y)) ≡ true → seen X h x x ≤ seen X h x y
+      le : (u : Bool) → ltb (seen X h x x) (seen X h x y) ≡ u → (u || eqb (seen X h x x) (seen X h x y)) ≡ true
+          → seen X h x x ≤ seen X h x y
       le true e t = let z = ltb-true (seen X h x x) (seen X h x y) e in omega arith
       le false e t = let z = eqb-true (seen X h x x) (seen X h x y) t in omega arith
 
@@ -69,7 +70,8 @@ module _ (X : Setup) (h : Log) (c : Causal X h) (x y : ℕ) (lx : x < h .count) 
       to (inr l) = l
       to (inl z) = absurd (ne (ap (h .desk) z))
 
-      from : seen X h x x ≤ seen X h x y → (u : Bool) → ltb (seen X h x x) (seen X h x y) ≡ u → (u || eqb (seen X h x x) (seen X h x y)) ≡ true
+      from : seen X h x x ≤ seen X h x y → (u : Bool) → ltb (seen X h x x) (seen X h x y) ≡ u
+          → (u || eqb (seen X h x x) (seen X h x y)) ≡ true
       from k true e = refl
       from k false e = let z = ltb-false (seen X h x x) (seen X h x y) e in eq-eqb (seen X h x x) (seen X h x y) (omega arith)
 
@@ -113,7 +115,8 @@ module _ (X : Setup) (h : Log) (c : Causal X h) (x y : ℕ) (lx : x < h .count) 
 
   pub stands : Stands h x y (relation d d′ (h .desk x) (h .desk y) (h .row x) (h .row y))
   stands =
-      go (eqb (h .desk x) (h .desk y) && sameBy d (h .row x (h .desk x) .clock) (h .row y (h .desk x) .clock)) (asked h d x y) (asked h d′ y x) refl refl refl
+      go (eqb (h .desk x) (h .desk y) && sameBy d (h .row x (h .desk x) .clock) (h .row y (h .desk x) .clock)) (asked h d x y)
+      (asked h d′ y x) refl refl refl
     where
       T-of : {b : Bool} {A : Type 0} → b ≡ true → (b ≡ true) ↔ A → A
       T-of e i = i .0 e

@@ -157,9 +157,11 @@ module _ (X : Setup) (ok : Permitted X) (b : Tables) (w : Bounded X b) where
       go false e = n
       go true e = (h, let l = later-lag line o x y e in omega arith)
 
-  merged-near : (j : ℕ) → j < X .desks → (m : Row) → NearRow (phases b) (2 * X .seatLag) m → NearRow (phases b) (X .seatLag) (merged line b j m)
+  merged-near : (j : ℕ) → j < X .desks → (m : Row) → NearRow (phases b) (2 * X .seatLag) m
+      → NearRow (phases b) (X .seatLag) (merged line b j m)
   merged-near j h m n =
-      put-all (λ k (q : Pair). Near (phases b k) (X .seatLag) (q .phase)) (λ k. later line (phases b k) (b .seat j .row k) (m k)) j (tick (own b j))
+      put-all (λ k (q : Pair). Near (phases b k) (X .seatLag) (q .phase)) (λ k. later line (phases b k) (b .seat j .row k) (m k)) j
+      (tick (own b j))
       (omega arith, omega arith) (λ k h′. later-near (phases b k) (X .seatLag) (b .seat j .row k) (m k) (w .seats j h k) (n k .0))
 
   pub mail-near : (p : ℕ) → used (b .mail p) ≡ true → NearRow (phases b) (2 * X .seatLag) (rowIn (b .mail p))
@@ -175,7 +177,8 @@ module _ (X : Setup) (ok : Permitted X) (b : Tables) (w : Bounded X b) where
   reset-held j B p (some m) n h = (
     n .0,
     put-all (λ k o. Near o B (m .row k .phase)) (phases b) j (phases b j + 1)
-        (let z : phases b j - m .row j .phase ≡ B → ⊥ = eqb-false _ _ (h (n .0)) in let a = n .1 j in (omega arith, omega arith)) (λ k h′. n .1 k),
+        (let z : phases b j - m .row j .phase ≡ B → ⊥ = eqb-false _ _ (h (n .0)) in let a = n .1 j in (omega arith, omega arith))
+        (λ k h′. n .1 k),
   )
 
   reset-seats : (j : ℕ) → ((s : ℕ) → s < X .desks → seatLags line b j (X .seatLag) s ≡ false)

@@ -196,7 +196,8 @@ module _ (X : Setup) (h : Log) (c : Causal X h) (j : ℕ) (w : Kind) (r : Row) (
             (below (λ f. Upto (logged h j w r) (h .count) f → seen X (logged h j w r) (h .count) (h .count) ≤ seen X (logged h j w r) (h .count) f) (h .count) f b
             (λ b u. absurd (no-later f b u))
             (λ u. omega arith));
-        complete = λ e f a b. below (λ e. seen X (logged h j w r) e e ≤ seen X (logged h j w r) e f → Upto (logged h j w r) e f) (h .count) e a
+        complete =
+            λ e f a b. below (λ e. seen X (logged h j w r) e e ≤ seen X (logged h j w r) e f → Upto (logged h j w r) e f) (h .count) e a
             (λ a. below (λ f. seen X (logged h j w r) e e ≤ seen X (logged h j w r) e f → Upto (logged h j w r) e f) (h .count) f b
             (λ b k. up-to e f b (c .complete e f a b (rw (seen-old e e a a, seen-old e f a b) at k)))
             (λ k. inr (of-new e a (rw (seen-old e e a a, seen-into e a) at k))))

@@ -236,7 +236,8 @@ module _ (X : Setup) (ok : Permitted X) (b : Tables) (w : Fits X b) where
         unstarted = w .unstarted;
         beyond = w .beyond;
         mail = w .mail;
-        shelf = put-all (λ s o. Each (SlotFits X (phases b) s) o) (b .shelf) (freeSlot b) (some record { by = j; to = 0; row = b .seat j .row })
+        shelf =
+            put-all (λ s o. Each (SlotFits X (phases b) s) o) (b .shelf) (freeSlot b) (some record { by = j; to = 0; row = b .seat j .row })
             (record {
               place = n .2;
               by = n .0;

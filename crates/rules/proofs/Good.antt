@@ -71,7 +71,8 @@ module _ (X : Setup) (ok : Permitted X) (b : Tables) (h : History) (g : Good X b
         s .1,
       )
       go false s =
-          let z : key X (b .seat j .row (h .log .desk e)) ≡ key X (zeros (h .log .desk e)) = ap (λ (ρ : Row). key X (ρ (h .log .desk e))) (s .0) in
+          let z : key X (b .seat j .row (h .log .desk e)) ≡ key X (zeros (h .log .desk e)) = ap (λ (ρ : Row). key X (ρ (h .log .desk e)))
+          (s .0) in
           let y = g .causal .positive e a in
           absurd (omega arith)
 
@@ -133,7 +134,8 @@ module _ (X : Setup) (ok : Permitted X) (b : Tables) (h : History) (g : Good X b
       go true p = let z = ltb-true (key X x) (key X y) (sym p) in (omega arith, omega arith, inr refl)
       go false p = let z = ltb-false (key X x) (key X y) (sym p) in (omega arith, omega arith, inl refl)
 
-  module _ (j x : ℕ) (m : Row) (lj : j < X .desks) (lx : x < h .log .count) (is : h .log .row x ≡ m) (near : NearRow (phases b) (2 * X .seatLag) m) where
+  module _ (j x : ℕ) (m : Row) (lj : j < X .desks) (lx : x < h .log .count) (is : h .log .row x ≡ m)
+      (near : NearRow (phases b) (2 * X .seatLag) m) where
     m-clock : (k : ℕ) → m k .clock < X .clocks
     m-clock k = rw is at (g .causal .clocks x lx k)
 
@@ -173,12 +175,14 @@ module _ (X : Setup) (ok : Permitted X) (b : Tables) (h : History) (g : Good X b
           heard = λ e a ne k. heard e a (at-k (h .log .desk e) .2) (rw (r-other (h .log .desk e) ne) at k);
         }
       where
-        small : (k : ℕ) → ((later line (phases b k) (b .seat j .row k) (m k) ≡ b .seat j .row k) ⊎ (later line (phases b k) (b .seat j .row k) (m k) ≡ m k))
+        small : (k : ℕ)
+            → ((later line (phases b k) (b .seat j .row k) (m k) ≡ b .seat j .row k) ⊎ (later line (phases b k) (b .seat j .row k) (m k) ≡ m k))
             → later line (phases b k) (b .seat j .row k) (m k) .clock < X .clocks
         small k (inl z) = rw z (seat-clock j k)
         small k (inr z) = rw z (m-clock k)
 
-        from : (k : ℕ) → ((later line (phases b k) (b .seat j .row k) (m k) ≡ b .seat j .row k) ⊎ (later line (phases b k) (b .seat j .row k) (m k) ≡ m k))
+        from : (k : ℕ)
+            → ((later line (phases b k) (b .seat j .row k) (m k) ≡ b .seat j .row k) ⊎ (later line (phases b k) (b .seat j .row k) (m k) ≡ m k))
             → Origin (h .log) k (later line (phases b k) (b .seat j .row k) (m k))
         from k (inl z) = rw z (seat-from j k)
         from k (inr z) = rw z (subst (λ (ρ : Row). Origin (h .log) k (ρ k)) is (g .causal .origin x lx k))
@@ -187,7 +191,8 @@ module _ (X : Setup) (ok : Permitted X) (b : Tables) (h : History) (g : Good X b
             → seen X (h .log) e e ≤ key X (later line (phases b (h .log .desk e)) (b .seat j .row (h .log .desk e)) (m (h .log .desk e)))
         tells e y a c u (inl z) = let p = seat-tells j e y a c u z in let q = at-k (h .log .desk e) .0 in omega arith
         tells e y a c u (inr z) =
-            let p : seen X (h .log) e e ≤ seen X (h .log) e x = g .causal .sound e x a lx (subst (λ v. Upto (h .log) e v) (let s : y ≡ x = cc in s) u) in
+            let p : seen X (h .log) e e ≤ seen X (h .log) e x = g .causal .sound e x a lx
+            (subst (λ v. Upto (h .log) e v) (let s : y ≡ x = cc in s) u) in
             let p′ : seen X (h .log) e e ≤ key X (m (h .log .desk e)) = rw is at p in
             let q = at-k (h .log .desk e) .1 in
             omega arith
@@ -235,7 +240,8 @@ module _ (X : Setup) (ok : Permitted X) (b : Tables) (h : History) (g : Good X b
         record {
           bounded = bd;
           causal = causal-next X (h .log) (g .causal) j w r fit;
-          known = λ f l. below (λ f. (k : ℕ) → key X ((logged (h .log) j w r) .row f k) ≤ key X ((seated b j r k) .row k)) (h .log .count) f l
+          known =
+              λ f l. below (λ f. (k : ℕ) → key X ((logged (h .log) j w r) .row f k) ≤ key X ((seated b j r k) .row k)) (h .log .count) f l
               (λ l k. rw (old-row X (h .log) (g .causal) j w r fit f l)
               (put-all (λ k (s : Seat). key X (h .log .row f k) ≤ key X (s .row k)) (b .seat) j (record { started = true; row = r })
               (let z = fit .ahead f l in omega arith) (λ k ne. g .known f l k) k))
@@ -253,14 +259,17 @@ module _ (X : Setup) (ok : Permitted X) (b : Tables) (h : History) (g : Good X b
   mail-of : (p : ℕ) → used (b .mail p) ≡ true → (h .mailed p < h .log .count) × (h .log .row (h .mailed p) ≡ rowIn (b .mail p))
   mail-of p u = go (b .mail p) (g .mail p) u
     where
-      go : (o : Option Held) → Each (Behind (h .log) (h .mailed p)) o → used o ≡ true → (h .mailed p < h .log .count) × (h .log .row (h .mailed p) ≡ rowIn o)
+      go : (o : Option Held) → Each (Behind (h .log) (h .mailed p)) o → used o ≡ true
+          → (h .mailed p < h .log .count) × (h .log .row (h .mailed p) ≡ rowIn o)
       go none n u = absurd (mathlib.Core.Bool.false≢true u)
       go (some m) n u = (n .0, n .2)
 
-  seat-event : (j : ℕ) → b .seat j .started ≡ true → (h .last j < h .log .count) × (h .log .desk (h .last j) ≡ j) × (h .log .row (h .last j) ≡ b .seat j .row)
+  seat-event : (j : ℕ) → b .seat j .started ≡ true
+      → (h .last j < h .log .count) × (h .log .desk (h .last j) ≡ j) × (h .log .row (h .last j) ≡ b .seat j .row)
   seat-event j u = go (b .seat j .started) (g .seats j) u
     where
-      go : (t : Bool) → SeatOf (h .log) j (h .last j) t (b .seat j .row) → t ≡ true → (h .last j < h .log .count) × (h .log .desk (h .last j) ≡ j) × (h .log .row (h .last j) ≡ b .seat j .row)
+      go : (t : Bool) → SeatOf (h .log) j (h .last j) t (b .seat j .row) → t ≡ true
+          → (h .last j < h .log .count) × (h .log .desk (h .last j) ≡ j) × (h .log .row (h .last j) ≡ b .seat j .row)
       go true s u = (s .0, s .1, s .2)
       go false s u = absurd (mathlib.Core.Bool.false≢true u)
 

@@ -56,7 +56,8 @@ compared-once (Compares.Refused n) (Compares.Is x) e = let v = same-value _ _ e 
 compared-once (Compares.Refused n) (Compares.Refused n′) e = let n = number-once _ _ e in cc
 
 -- a stamp, of sixteen row bytes
-stamp-once : (x x′ : Stamp) → length (x .row) ≡ 16 → length (x′ .row) ≡ 16 → x .owner ≡ x′ .owner → rowOf (x .row) ≡ rowOf (x′ .row) → x ≡ x′
+stamp-once : (x x′ : Stamp) → length (x .row) ≡ 16 → length (x′ .row) ≡ 16 → x .owner ≡ x′ .owner → rowOf (x .row) ≡ rowOf (x′ .row)
+    → x ≡ x′
 stamp-once x x′ n n′ o e = let r = row-once (x .row) (x′ .row) n n′ e in λ i. record { owner = o i; row = r i }
 
 -- local, receive and reset

@@ -198,7 +198,8 @@ module _ (A : Answers) where
   printed-line b l xs f =
       let s = start (A .leaves b l) in
       let e : l ++ 10 ∷ xs ≡ (l ++ 10 ∷ []) ++ xs = sym (append-assoc l (10 ∷ []) xs) in
-      rw (e, text-join (start b) (l ++ 10 ∷ []) xs, after-join (start b) (l ++ 10 ∷ []) xs, line-text (start b) l f, line-after (start b) l f)
+      rw
+      (e, text-join (start b) (l ++ 10 ∷ []) xs, after-join (start b) (l ++ 10 ∷ []) xs, line-text (start b) l f, line-after (start b) l f)
       (append-assoc (A .says b l) (textOf A s xs) (lastText A (after A s xs)))
 
   pub printed-last : (b l : List ℕ) → flat l ≡ true → (length l ≡ 0 → ⊥) → printed A b l ≡ A .says b l

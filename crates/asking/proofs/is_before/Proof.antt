@@ -19,15 +19,12 @@ owner-of-requires-2 c κs = let u = used (c .before .before) in (sound-size _ (u
 way-of-requires : tie.Need-way-of-requires
 way-of-requires c κs = let u = used (c .before .before .before) in let z = sound-size _ (u .whole) in search needs
 
-is-before-requires : tie.Need-is-before-requires
-is-before-requires c κs = search needs
-
 returns : tie.Need-returns
 returns c =
     let w = c .before .way-of in
-    before-answered _ _ _ (c .before .before .before .before .before .pre) (w .result) (w .ensures) _ _ (c .before .before .before .owner-of .ensures) (c .before .before .owner-of2 .ensures) _ (c .is-before .ensures)
+    before-answered _ _ _ (c .before .before .before .before .before .pre) (w .result) (w .ensures) _ _
+    (c .before .before .before .owner-of .ensures) (c .before .before .owner-of2 .ensures) _ (c .is-before .ensures)
 
 pub is-before-spec : {M : Type 1} → statement M
 is-before-spec =
-    tie.close
-    (tie.spec owner-of-requires owner-of-requires-2 way-of-requires is-before-requires returns)
+    tie.close (tie.spec owner-of-requires owner-of-requires-2 way-of-requires (λ c κs. search needs) returns)

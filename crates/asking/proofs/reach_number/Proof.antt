@@ -13,15 +13,18 @@ use borrow.Author.Needs.{needs}
 use Rattle.asking.proofs.reach_number.Statement.{statement}
 use Rattle.asking.proofs.reach_number.Tie as tie
 
-slots-number-requires : tie.Need-slots-number-requires
-slots-number-requires c κs = search needs
-
 returns : tie.Need-returns
-returns c = let a = c .before .before .before .args in let n = c .before .slots-number in reach-due (a .book .now) (a .first) (a .second) (n .result) (n .ensures) (c .if1 .taken) (a .both)
+returns c =
+    let a = c .before .before .before .args in
+    let n = c .before .slots-number in
+    reach-due (a .book .now) (a .first) (a .second) (n .result) (n .ensures) (c .if1 .taken) (a .both)
 
 -- both slots are used
-used : (c : tie.Else1) → Two (c .before .before .before .args .book .now) (c .before .before .before .args .first) (c .before .before .before .args .second)
-used c = let a = c .before .before .before .args in slots-two (a .book .now) (a .first) (a .second) (sym (c .before .slots-number .ensures) ∙ c .if1 .left)
+used : (c : tie.Else1)
+    → Two (c .before .before .before .args .book .now) (c .before .before .before .args .first) (c .before .before .before .args .second)
+used c =
+    let a = c .before .before .before .args in
+    slots-two (a .book .now) (a .first) (a .second) (sym (c .before .slots-number .ensures) ∙ c .if1 .left)
 
 -- what was asked
 abbrev asked : tie.After-out-of-reach2 → Act
@@ -35,7 +38,8 @@ reached : (c : tie.After-out-of-reach2) (o : Bool)
 reached c o e =
     let a = c .before .before .before .before .before .before .before .before .args in
     let s = c .before .before .before .before .setup-of .ensures in
-    let there = reach-told (a .book .now) _ s (a .first) (a .second) _ (c .before .before .before .way-of .ensures) _ (c .before .before .out-of-reach .ensures) in
+    let there = reach-told (a .book .now) _ s (a .first) (a .second) _ (c .before .before .before .way-of .ensures) _
+    (c .before .before .out-of-reach .ensures) in
     let back = reach-told (a .book .now) _ s (a .second) (a .first) _ (c .before .way-of2 .ensures) _ (c .out-of-reach2 .ensures) in
     reach-number (a .book .now) (a .first) (a .second) (used (c .before .before .before .before .before)) o (a .both)
     ((λ x. there x || (a .both && back x)) ∙ e)
@@ -53,7 +57,8 @@ way-of-requires-2 : tie.Need-way-of-requires-2
 way-of-requires-2 c κs = let u = used (c .before .before .before) in let z = sound-size _ (u .whole) in search needs
 
 out-of-reach-requires-2 : tie.Need-out-of-reach-requires-2
-out-of-reach-requires-2 c κs = reach-bytes _ _ (c .before .before .before .setup-of .ensures) (used (c .before .before .before .before) .whole)
+out-of-reach-requires-2 c κs =
+    reach-bytes _ _ (c .before .before .before .setup-of .ensures) (used (c .before .before .before .before) .whole)
 
 returns-2 : tie.Need-returns-2
 returns-2 c = reached (c .before) true (c .if2 .taken)
@@ -65,12 +70,5 @@ pub reach-number-spec : {M : Type 1} → statement M
 reach-number-spec =
     tie.close
     (tie.spec
-    slots-number-requires
-    returns
-    setup-of-requires
-    way-of-requires
-    out-of-reach-requires
-    way-of-requires-2
-    out-of-reach-requires-2
-    returns-2
-    returns-3)
+    (λ c κs. search needs) returns setup-of-requires way-of-requires out-of-reach-requires way-of-requires-2 out-of-reach-requires-2
+    returns-2 returns-3)

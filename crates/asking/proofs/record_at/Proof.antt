@@ -37,23 +37,13 @@ desks-of-requires c κs = size (c .before .before .before)
 cast-record-of : tie.Need-cast-record-of
 cast-record-of c = omega (arith, c .desks-of .ensures, few-desks _ (one (c .before .before .before .before) .whole))
 
-record-of-requires : tie.Need-record-of-requires
-record-of-requires c κs = search needs
-
 returns : tie.Need-returns
 returns c =
     let a = c .before .before .before .before .before in
     c .record-of .ensures
-    ∙ write-record (a .args .book .now) (a .args .slot) (a .args .room) (a .pre) _ _ _ (c .before .desks-of .ensures) (c .before .before .owner-of .ensures) (c .before .before .before .row-array .ensures)
+    ∙ write-record (a .args .book .now) (a .args .slot) (a .args .room) (a .pre) _ _ _ (c .before .desks-of .ensures)
+    (c .before .before .owner-of .ensures) (c .before .before .before .row-array .ensures)
 
 pub record-at-spec : {M : Type 1} → statement M
 record-at-spec =
-    tie.close
-    (tie.spec
-    add-row-array
-    row-array-requires
-    owner-of-requires
-    desks-of-requires
-    cast-record-of
-    record-of-requires
-    returns)
+    tie.close (tie.spec add-row-array row-array-requires owner-of-requires desks-of-requires cast-record-of (λ c κs. search needs) returns)

@@ -22,22 +22,13 @@ way-of-requires c κs = let u = used (c .before .before .before) in let z = soun
 way-of-requires-2 : tie.Need-way-of-requires-2
 way-of-requires-2 c κs = let u = used (c .before .before .before .before) in let z = sound-size _ (u .whole) in search needs
 
-relation-requires : tie.Need-relation-requires
-relation-requires c κs = search needs
-
 returns : tie.Need-returns
 returns c =
     let w = c .before .before .way-of in
     let v = c .before .way-of2 in
-    compare-answered _ _ _ (c .before .before .before .before .before .before .pre) (w .result) (v .result) (w .ensures) (v .ensures) _ _ (c .before .before .before .before .owner-of .ensures) (c .before .before .before .owner-of2 .ensures) _ (c .relation .ensures)
+    compare-answered _ _ _ (c .before .before .before .before .before .before .pre) (w .result) (v .result) (w .ensures) (v .ensures) _ _
+    (c .before .before .before .before .owner-of .ensures) (c .before .before .before .owner-of2 .ensures) _ (c .relation .ensures)
 
 pub relation-spec : {M : Type 1} → statement M
 relation-spec =
-    tie.close
-    (tie.spec
-    owner-of-requires
-    owner-of-requires-2
-    way-of-requires
-    way-of-requires-2
-    relation-requires
-    returns)
+    tie.close (tie.spec owner-of-requires owner-of-requires-2 way-of-requires way-of-requires-2 (λ c κs. search needs) returns)

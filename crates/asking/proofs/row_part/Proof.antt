@@ -32,12 +32,6 @@ add-a-3 c = let b = below c in omega arith
 add-e : tie.Need-add-e
 add-e c = let b = below c in omega arith
 
-sub-result : tie.Need-sub-result
-sub-result c = search needs
-
-part-result-start : tie.Need-part-result-start
-part-result-start c = search needs
-
 part-result-end : tie.Need-part-result-end
 part-result-end c = let b = below c in let z = size c in omega arith
 
@@ -50,14 +44,4 @@ returns c =
 
 pub row-part-spec : {M : Type 1} → statement M
 row-part-spec =
-    tie.close
-    (tie.spec
-    add-a
-    mul-a
-    add-a-2
-    add-a-3
-    add-e
-    sub-result
-    part-result-start
-    part-result-end
-    returns)
+    tie.close (tie.spec add-a mul-a add-a-2 add-a-3 add-e (λ c. search needs) (λ c. search needs) part-result-end returns)

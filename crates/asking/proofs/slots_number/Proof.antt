@@ -14,9 +14,6 @@ use borrow.Author.Needs.{needs}
 use Rattle.asking.proofs.slots_number.Statement.{statement}
 use Rattle.asking.proofs.slots_number.Tie as tie
 
-sound-requires : tie.Need-sound-requires
-sound-requires c κs = search needs
-
 returns : tie.Need-returns
 returns c = rw (sym (c .before .sound .ensures) ∙ not-true _ (c .if1 .taken))
 
@@ -25,7 +22,8 @@ whole : (c : tie.Else1) → sound (c .before .before .before .args .book .now) �
 whole c = sym (c .before .sound .ensures) ∙ not-false _ (c .if1 .left)
 
 numbered : (c : tie.After-is-used2) (t : Bool) → (not (c .before .is-used .result) || not (c .is-used2 .result)) ≡ t
-    → pick t (number NoPlace) 0 ≡ slotsNumber (c .before .before .before .before .before .args .book .now) (c .before .before .before .before .before .args .first) (c .before .before .before .before .before .args .second)
+    → pick t (number NoPlace) 0
+    ≡ slotsNumber (c .before .before .before .before .before .args .book .now) (c .before .before .before .before .before .args .first) (c .before .before .before .before .before .args .second)
 numbered c t e =
     let a = c .before .before .before .before .before .args in
     slots-number (a .book .now) (a .first) (a .second) (whole (c .before .before)) t
@@ -45,5 +43,4 @@ returns-3 c = numbered (c .before) false (c .if2 .left)
 
 pub slots-number-spec : {M : Type 1} → statement M
 slots-number-spec =
-    tie.close
-    (tie.spec sound-requires returns is-used-requires is-used-requires-2 returns-2 returns-3)
+    tie.close (tie.spec (λ c κs. search needs) returns is-used-requires is-used-requires-2 returns-2 returns-3)

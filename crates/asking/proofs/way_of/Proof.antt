@@ -15,22 +15,20 @@ use borrow.Author.Needs.{needs}
 use Rattle.asking.proofs.way_of.Statement.{statement}
 use Rattle.asking.proofs.way_of.Tie as tie
 
-owner-of-requires : tie.Need-owner-of-requires
-owner-of-requires c κs = search needs
-
-wide-requires : tie.Need-wide-requires
-wide-requires c κs = search needs
-
 abbrev RingAt : List ℕ → ℕ → ℕ → ℕ → Type 0
 RingAt s j i k =
-    (byte s (spot j (4 + 2 * j)) < byte s 3) × (byte s (spot (40 + i) (4 + 2 * j)) < byte s 3) × (byte s (spot (40 + k) (4 + 2 * j)) < byte s 3)
+    (byte s (spot j (4 + 2 * j)) < byte s 3) × (byte s (spot (40 + i) (4 + 2 * j)) < byte s 3) ×
+    (byte s (spot (40 + k) (4 + 2 * j)) < byte s 3)
 
 -- the owner of the first slot
-owner : (c : tie.After-wide) → c .wide .result ≡ byIn (tablesOf (c .before .before .before .args .book .now) .shelf (c .before .before .before .args .first))
+owner : (c : tie.After-wide)
+    → c .wide .result ≡ byIn (tablesOf (c .before .before .before .args .book .now) .shelf (c .before .before .before .args .first))
 owner c = c .wide .ensures ∙ c .before .owner-of .ensures
 
 eight : (c : tie.After-wide) → c .wide .result < 8
-eight c = let a = c .before .before .before in omega (arith, owner c, slot-eight (a .args .book .now) (a .args .first) (a .pre .1 .0) (a .pre .0 .1))
+eight c =
+    let a = c .before .before .before in
+    omega (arith, owner c, slot-eight (a .args .book .now) (a .args .first) (a .pre .1 .0) (a .pre .0 .1))
 
 -- both slots are on the shelf
 below : (c : tie.After-wide) → (c .before .before .before .args .first < 32) × (c .before .before .before .args .second < 32)
@@ -43,7 +41,8 @@ on-ring : (c : tie.After-wide) (k : ℕ) → k < 72
     → byte (c .before .before .before .args .book .now) (spot k (4 + 2 * c .wide .result)) < byte (c .before .before .before .args .book .now) 3
 on-ring c k l = phase-below _ (c .before .before .before .pre .0 .1) k _ l (eight c)
 
-all-on-ring : (c : tie.After-wide) → RingAt (c .before .before .before .args .book .now) (c .wide .result) (c .before .before .before .args .first) (c .before .before .before .args .second)
+all-on-ring : (c : tie.After-wide)
+    → RingAt (c .before .before .before .args .book .now) (c .wide .result) (c .before .before .before .args .first) (c .before .before .before .args .second)
 all-on-ring c =
     let a = c .before .before .before .args in
     let b = below c in
@@ -56,17 +55,22 @@ add-e c = omega (arith, below c)
 add-f : tie.Need-add-f
 add-f c = omega (arith, below c)
 
-phases-of-requires : tie.Need-phases-of-requires
-phases-of-requires c κs = search needs
-
 phase-at-requires : tie.Need-phase-at-requires
 phase-at-requires c κs = let g = c .before in let b = below g in let e = eight g in (g .before .before .before .pre .0 .0, omega arith)
 
 phase-at-requires-2 : tie.Need-phase-at-requires-2
-phase-at-requires-2 c κs = let g = c .before .before in let b = below g in let e = eight g in (g .before .before .before .pre .0 .0, omega arith)
+phase-at-requires-2 c κs =
+    let g = c .before .before in
+    let b = below g in
+    let e = eight g in
+    (g .before .before .before .pre .0 .0, omega arith)
 
 phase-at-requires-3 : tie.Need-phase-at-requires-3
-phase-at-requires-3 c κs = let g = c .before .before .before in let b = below g in let e = eight g in (g .before .before .before .pre .0 .0, omega arith)
+phase-at-requires-3 c κs =
+    let g = c .before .before .before in
+    let b = below g in
+    let e = eight g in
+    (g .before .before .before .pre .0 .0, omega arith)
 
 lag-requires : tie.Need-lag-requires
 lag-requires c κs = let r = all-on-ring (c .before .before .before .before) in omega arith
@@ -75,10 +79,18 @@ lag-requires-2 : tie.Need-lag-requires-2
 lag-requires-2 c κs = let r = all-on-ring (c .before .before .before .before .before) in omega arith
 
 clock-at-requires : tie.Need-clock-at-requires
-clock-at-requires c κs = let g = c .before .before .before .before .before .before in let b = below g in let e = eight g in (g .before .before .before .pre .0 .0, omega arith)
+clock-at-requires c κs =
+    let g = c .before .before .before .before .before .before in
+    let b = below g in
+    let e = eight g in
+    (g .before .before .before .pre .0 .0, omega arith)
 
 clock-at-requires-2 : tie.Need-clock-at-requires-2
-clock-at-requires-2 c κs = let g = c .before .before .before .before .before .before .before in let b = below g in let e = eight g in (g .before .before .before .pre .0 .0, omega arith)
+clock-at-requires-2 c κs =
+    let g = c .before .before .before .before .before .before .before in
+    let b = below g in
+    let e = eight g in
+    (g .before .before .before .pre .0 .0, omega arith)
 
 returns : tie.Need-returns
 returns c =
@@ -88,24 +100,15 @@ returns c =
     let o = c .before .before .before .before .before .before .phase-at .ensures in
     let e = c .before .before .before .before .before .phase-at2 .ensures in
     let f = c .before .before .before .before .phase-at3 .ensures in
-    way-lags (a .args .book .now) (a .pre .0 .1) (a .args .first) (a .args .second) (a .pre .1 .0) (a .pre .1 .1) (g .wide .result) (owner g) _ _ _ _
-    (c .before .before .before .lag .ensures ∙ (λ t. lagOf (p t) (o t) (e t))) (c .before .before .lag2 .ensures ∙ (λ t. lagOf (p t) (o t) (f t)))
+    way-lags (a .args .book .now) (a .pre .0 .1) (a .args .first) (a .args .second) (a .pre .1 .0) (a .pre .1 .1) (g .wide .result)
+    (owner g) _ _ _ _
+    (c .before .before .before .lag .ensures ∙ (λ t. lagOf (p t) (o t) (e t)))
+    (c .before .before .lag2 .ensures ∙ (λ t. lagOf (p t) (o t) (f t)))
     (c .before .clock-at .ensures) (c .clock-at2 .ensures)
 
 pub way-of-spec : {M : Type 1} → statement M
 way-of-spec =
     tie.close
     (tie.spec
-    owner-of-requires
-    wide-requires
-    add-e
-    add-f
-    phases-of-requires
-    phase-at-requires
-    phase-at-requires-2
-    phase-at-requires-3
-    lag-requires
-    lag-requires-2
-    clock-at-requires
-    clock-at-requires-2
-    returns)
+    (λ c κs. search needs) (λ c κs. search needs) add-e add-f (λ c κs. search needs) phase-at-requires phase-at-requires-2
+    phase-at-requires-3 lag-requires lag-requires-2 clock-at-requires clock-at-requires-2 returns)

@@ -8,15 +8,9 @@ use borrow.Author.Needs.{needs}
 use Rattle.commands.proofs.is_shaped.Statement.{statement}
 use Rattle.commands.proofs.is_shaped.Tie as tie
 
-starts-with-requires : tie.Need-starts-with-requires
-starts-with-requires c κs = search needs
-
 returns : tie.Need-returns
 unfolding shaped
 returns c = sym (not-each _ 1 (sym (c .before .starts-with .ensures) ∙ not-true _ (c .if1 .taken)))
-
-are-numbers-requires : tie.Need-are-numbers-requires
-are-numbers-requires c κs = search needs
 
 returns-2 : tie.Need-returns-2
 unfolding shaped allOf
@@ -30,4 +24,5 @@ returns-2 c =
     ) (cc)
 
 pub is-shaped-spec : {M : Type 1} → statement M
-is-shaped-spec = tie.close (tie.spec starts-with-requires returns are-numbers-requires returns-2)
+is-shaped-spec =
+    tie.close (tie.spec (λ c κs. search needs) returns (λ c κs. search needs) returns-2)

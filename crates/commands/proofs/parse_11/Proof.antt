@@ -7,15 +7,6 @@ use borrow.Author.Needs.{needs}
 use Rattle.commands.proofs.parse_11.Statement.{statement}
 use Rattle.commands.proofs.parse_11.Tie as tie
 
-slice-aggregate-is-shaped : tie.Need-slice-aggregate-is-shaped
-slice-aggregate-is-shaped c = search needs
-
-is-shaped-requires : tie.Need-is-shaped-requires
-is-shaped-requires c κs = search needs
-
-number-requires : tie.Need-number-requires
-number-requires c κs = search needs
-
 returns : tie.Need-returns
 unfolding verbs choose tab
 returns c =
@@ -29,5 +20,4 @@ returns-2 c =
 
 pub parse-11-spec : {M : Type 1} → statement M
 parse-11-spec =
-    tie.close
-    (tie.spec slice-aggregate-is-shaped is-shaped-requires number-requires returns returns-2)
+    tie.close (tie.spec (λ c. search needs) (λ c κs. search needs) (λ c κs. search needs) returns returns-2)

@@ -7,23 +7,12 @@ use borrow.Author.Needs.{needs}
 use Rattle.commands.proofs.parse_12.Statement.{statement}
 use Rattle.commands.proofs.parse_12.Tie as tie
 
-slice-aggregate-is-shaped : tie.Need-slice-aggregate-is-shaped
-slice-aggregate-is-shaped c = search needs
-
-is-shaped-requires : tie.Need-is-shaped-requires
-is-shaped-requires c κs = search needs
-
-number-requires : tie.Need-number-requires
-number-requires c κs = search needs
-
-number-requires-2 : tie.Need-number-requires-2
-number-requires-2 c κs = search needs
-
 returns : tie.Need-returns
 unfolding verbs choose tab
 returns c =
     let t = c .before .before in
-    rw (sift _ 12 (t .before .before .before .before .pre), sym (t .before .is-shaped .ensures) ∙ t .if1 .taken, c .before .number .ensures, c .number2 .ensures)
+    rw
+    (sift _ 12 (t .before .before .before .before .pre), sym (t .before .is-shaped .ensures) ∙ t .if1 .taken, c .before .number .ensures, c .number2 .ensures)
 
 returns-2 : tie.Need-returns-2
 unfolding verbs choose tab
@@ -32,11 +21,4 @@ returns-2 c =
 
 pub parse-12-spec : {M : Type 1} → statement M
 parse-12-spec =
-    tie.close
-    (tie.spec
-    slice-aggregate-is-shaped
-    is-shaped-requires
-    number-requires
-    number-requires-2
-    returns
-    returns-2)
+    tie.close (tie.spec (λ c. search needs) (λ c κs. search needs) (λ c κs. search needs) (λ c κs. search needs) returns returns-2)

@@ -5,14 +5,8 @@ use Rattle.comparing.proofs.Ways.{before-clocked}
 use Rattle.comparing.proofs.is_before.Statement.{statement}
 use Rattle.comparing.proofs.is_before.Tie as tie
 
-later-by-requires : tie.Need-later-by-requires
-later-by-requires c κs = search needs
-
-same-by-requires : tie.Need-same-by-requires
-same-by-requires c κs = search needs
-
 returns : tie.Need-returns
 returns c e f p = let x = c .before .before .args in cc (before-clocked (x .w) (x .j) (x .k) e f p)
 
 pub is-before-spec : {M : Type 1} → statement M
-is-before-spec = tie.close (tie.spec later-by-requires same-by-requires returns)
+is-before-spec = tie.close (tie.spec (λ c κs. search needs) (λ c κs. search needs) returns)

@@ -10,19 +10,12 @@ use Rattle.comparing.proofs.Ways.{related, relation-by}
 use Rattle.comparing.proofs.relation.Statement.{statement}
 use Rattle.comparing.proofs.relation.Tie as tie
 
-same-by-requires : tie.Need-same-by-requires
-same-by-requires c κs = search needs
-
 returns : tie.Need-returns
 returns c e f p q =
     let x = c .before .before .args in
-    relation-by (x .w) (x .j) (x .k) e f p (x .v) true (isBefore (gapOf (x .w)) (x .j) (x .k) e f) (isBefore (gapOf (x .v)) (x .k) (x .j) f e) (ap (λ u. eqb (x .j) (x .k) && u) (sym (c .before .same-by .ensures)) ∙ c .if1 .taken) refl refl
-
-is-before-requires : tie.Need-is-before-requires
-is-before-requires c κs = search needs
-
-is-before-requires-2 : tie.Need-is-before-requires-2
-is-before-requires-2 c κs = search needs
+    relation-by (x .w) (x .j) (x .k) e f p (x .v) true (isBefore (gapOf (x .w)) (x .j) (x .k) e f)
+    (isBefore (gapOf (x .v)) (x .k) (x .j) f e)
+    (ap (λ u. eqb (x .j) (x .k) && u) (sym (c .before .same-by .ensures)) ∙ c .if1 .taken) refl refl
 
 -- both ways are asked
 asked : (c : tie.After-is-before2) (there back : Bool) → c .before .is-before .result ≡ there → c .is-before2 .result ≡ back → (e f : Row)
@@ -53,11 +46,4 @@ pub relation-spec : {M : Type 1} → statement M
 relation-spec =
     tie.close
     (tie.spec
-    same-by-requires
-    returns
-    is-before-requires
-    is-before-requires-2
-    returns-2
-    returns-3
-    returns-4
-    returns-5)
+    (λ c κs. search needs) returns (λ c κs. search needs) (λ c κs. search needs) returns-2 returns-3 returns-4 returns-5)

@@ -20,7 +20,8 @@ abbrev μ-loop : tie.MeasureT-loop
 taken
     : (c : tie.After-struct-known Inv-loop μ-loop)
     → (0 < c .before .before .before .before .before .feed .result .used)
-    × (c .before .before .before .before .before .before .before .before .before .before .before .before .loop .at + c .before .before .before .before .before .feed .result .used ≤ length (c .before .before .before .before .before .before .before .before .before .before .before .before .before .before .before .before .args .piece .now))
+    ×
+    (c .before .before .before .before .before .before .before .before .before .before .before .before .loop .at + c .before .before .before .before .before .feed .result .used ≤ length (c .before .before .before .before .before .before .before .before .before .before .before .before .before .before .before .before .args .piece .now))
 taken c =
     let f = c .before .before .before .before .before .feed .ensures .1 in
     let h = c .before .before .before .before .before .before .before .before .before .before .before .before .loop in
@@ -36,32 +37,16 @@ buffer-requires c κs = tt
 loop-holds : tie.Need-loop-holds Inv-loop μ-loop
 loop-holds c = (refl, c .buffer .ensures, omega arith, omega arith)
 
-slice-aggregate-feed : tie.Need-slice-aggregate-feed Inv-loop μ-loop
-slice-aggregate-feed c = search needs
-
-sub-feed : tie.Need-sub-feed Inv-loop μ-loop
-sub-feed c = search needs
-
-part-feed-start : tie.Need-part-feed-start Inv-loop μ-loop
-part-feed-start c = search needs
-
-part-feed-end : tie.Need-part-feed-end Inv-loop μ-loop
-part-feed-end c = search needs
-
 feed-requires : tie.Need-feed-requires Inv-loop μ-loop
 feed-requires c κs = (c .before .before .before .before .before .before .loop .inv .2, omega arith)
 
 add-at : tie.Need-add-at Inv-loop μ-loop
-add-at c = omega (arith, c .before .before .before .before .before .before .before .before .before .before .before .before .before .before .before .before .good, taken c)
-
-array-share-prefix-out : tie.Need-array-share-prefix-out Inv-loop μ-loop
-array-share-prefix-out c = search needs
+add-at c =
+    omega
+    (arith, c .before .before .before .before .before .before .before .before .before .before .before .before .before .before .before .before .good, taken c)
 
 slice-aggregate-write-all : tie.Need-slice-aggregate-write-all Inv-loop μ-loop
 slice-aggregate-write-all c = simp length-take (omega arith)
-
-write-all-requires : tie.Need-write-all-requires Inv-loop μ-loop
-write-all-requires c κs = search needs
 
 loop-less : tie.Need-loop-less Inv-loop μ-loop
 loop-less c = omega (arith, taken (c .before .before))
@@ -88,22 +73,6 @@ pub answer-piece-spec : {M : Type 1} → statement M
 answer-piece-spec =
     tie.close
     (tie.spec
-    Inv-loop
-    μ-loop
-    buffer-requires
-    loop-holds
-    slice-aggregate-feed
-    sub-feed
-    part-feed-start
-    part-feed-end
-    feed-requires
-    add-at
-    array-share-prefix-out
-    slice-aggregate-write-all
-    write-all-requires
-    loop-less
-    loop-again
-    same-length
-    returns
-    same-length-2
-    returns-2)
+    Inv-loop μ-loop buffer-requires loop-holds (λ c. search needs) (λ c. search needs) (λ c. search needs) (λ c. search needs)
+    feed-requires add-at (λ c. search needs) slice-aggregate-write-all (λ c κs. search needs) loop-less loop-again same-length returns
+    same-length-2 returns-2)

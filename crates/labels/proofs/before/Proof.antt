@@ -11,19 +11,11 @@ use Rattle.labels.proofs.Answered.{before-refused, within-bytes, before
 use Rattle.labels.proofs.before.Statement.{statement}
 use Rattle.labels.proofs.before.Tie as tie
 
-taken-apart-requires : tie.Need-taken-apart-requires
-taken-apart-requires c κs = search needs
-
-enum-known-asked : tie.Need-enum-known-asked
-enum-known-asked c = search needs
-
-enum-known-asked-2 : tie.Need-enum-known-asked-2
-enum-known-asked-2 c = search needs
-
 -- both records read
 ready : (c : tie.After-known-told2)
     → Between (c .before .before .before .before .before .before .args .s) (readStamp (c .before .before .before .before .before .before .args .s) (c .before .before .before .before .before .before .args .e .now)) (readStamp (c .before .before .before .before .before .before .args .s) (c .before .before .before .before .before .before .args .f .now))
-    (c .before .asked2 .given .0 .0) (c .before .asked2 .given .0 .1 .0) (c .before .asked2 .given .0 .1 .1 .0) (c .before .asked2 .given .0 .1 .1 .1 .0)
+    (c .before .asked2 .given .0 .0) (c .before .asked2 .given .0 .1 .0) (c .before .asked2 .given .0 .1 .1 .0)
+    (c .before .asked2 .given .0 .1 .1 .1 .0)
 ready c = rw (c .before .asked2 .given .1) at (c .before .before .before .taken-apart .ensures)
 
 out-of-reach-requires : tie.Need-out-of-reach-requires
@@ -32,12 +24,10 @@ out-of-reach-requires c κs = within-bytes _ _ _ _ _ _ _ (ready c)
 returns : tie.Need-returns
 returns c = before-out _ _ _ _ _ _ _ (ready (c .before .before)) (sym (c .before .out-of-reach .ensures) ∙ c .if1 .taken)
 
-is-before-requires : tie.Need-is-before-requires
-is-before-requires c κs = search needs
-
 -- within reach, the answer is what was asked
 said : (c : tie.After-is-before) (t : Bool) → c .is-before .result ≡ t
-    → accepted (says t) ≡ beforeOff (c .before .before .before .before .before .before .before .before .before .args .s) (readStamp (c .before .before .before .before .before .before .before .before .before .args .s) (c .before .before .before .before .before .before .before .before .before .args .e .now)) (readStamp (c .before .before .before .before .before .before .before .before .before .args .s) (c .before .before .before .before .before .before .before .before .before .args .f .now))
+    → accepted (says t)
+    ≡ beforeOff (c .before .before .before .before .before .before .before .before .before .args .s) (readStamp (c .before .before .before .before .before .before .before .before .before .args .s) (c .before .before .before .before .before .before .before .before .before .args .e .now)) (readStamp (c .before .before .before .before .before .before .before .before .before .args .s) (c .before .before .before .before .before .before .before .before .before .args .f .now))
 said c t q =
     let b = ready (c .before .before .before) in
     before-told _ _ _ _ _ _ _ b (sym (c .before .before .out-of-reach .ensures) ∙ c .before .if1 .left) t
@@ -58,12 +48,5 @@ pub before-spec : {M : Type 1} → statement M
 before-spec =
     tie.close
     (tie.spec
-    taken-apart-requires
-    enum-known-asked
-    enum-known-asked-2
-    out-of-reach-requires
-    returns
-    is-before-requires
-    returns-2
-    returns-3
+    (λ c κs. search needs) (λ c. search needs) (λ c. search needs) out-of-reach-requires returns (λ c κs. search needs) returns-2 returns-3
     returns-4)

@@ -9,19 +9,11 @@ use Rattle.labels.proofs.Answered.{compare-refused, within-bytes, compa
 use Rattle.labels.proofs.compare.Statement.{statement}
 use Rattle.labels.proofs.compare.Tie as tie
 
-taken-apart-requires : tie.Need-taken-apart-requires
-taken-apart-requires c κs = search needs
-
-enum-known-asked : tie.Need-enum-known-asked
-enum-known-asked c = search needs
-
-enum-known-asked-2 : tie.Need-enum-known-asked-2
-enum-known-asked-2 c = search needs
-
 -- both records read
 ready : (c : tie.After-known-told2)
     → Between (c .before .before .before .before .before .before .args .s) (readStamp (c .before .before .before .before .before .before .args .s) (c .before .before .before .before .before .before .args .e .now)) (readStamp (c .before .before .before .before .before .before .args .s) (c .before .before .before .before .before .before .args .f .now))
-    (c .before .asked2 .given .0 .0) (c .before .asked2 .given .0 .1 .0) (c .before .asked2 .given .0 .1 .1 .0) (c .before .asked2 .given .0 .1 .1 .1 .0)
+    (c .before .asked2 .given .0 .0) (c .before .asked2 .given .0 .1 .0) (c .before .asked2 .given .0 .1 .1 .0)
+    (c .before .asked2 .given .0 .1 .1 .1 .0)
 ready c = rw (c .before .asked2 .given .1) at (c .before .before .before .taken-apart .ensures)
 
 out-of-reach-requires : tie.Need-out-of-reach-requires
@@ -35,9 +27,6 @@ returns c =
     let there = c .before .before .out-of-reach .ensures in
     let back = c .before .out-of-reach2 .ensures in
     compare-out _ _ _ _ _ _ _ (ready (c .before .before .before)) ((λ i. sym there i || sym back i) ∙ c .if1 .taken)
-
-relation-requires : tie.Need-relation-requires
-relation-requires c κs = search needs
 
 returns-2 : tie.Need-returns-2
 returns-2 c =
@@ -56,12 +45,5 @@ pub compare-spec : {M : Type 1} → statement M
 compare-spec =
     tie.close
     (tie.spec
-    taken-apart-requires
-    enum-known-asked
-    enum-known-asked-2
-    out-of-reach-requires
-    out-of-reach-requires-2
-    returns
-    relation-requires
-    returns-2
-    returns-3)
+    (λ c κs. search needs) (λ c. search needs) (λ c. search needs) out-of-reach-requires out-of-reach-requires-2 returns
+    (λ c κs. search needs) returns-2 returns-3)

@@ -21,20 +21,14 @@ abbrev μ-loop : tie.MeasureT-loop
 loop-holds : tie.Need-loop-holds Inv-loop μ-loop
 loop-holds c = (search needs, all-none _)
 
-pair-reads-requires : tie.Need-pair-reads-requires Inv-loop μ-loop
-pair-reads-requires c κs = search needs
-
 returns : tie.Need-returns Inv-loop μ-loop
-returns c = let h = c .before .before .before in sym (all-not _ 8 (h .loop .j) (omega arith) (sym (c .before .pair-reads .ensures) ∙ not-true _ (c .if1 .taken)))
-
-add-j : tie.Need-add-j Inv-loop μ-loop
-add-j c = omega arith
-
-loop-less : tie.Need-loop-less Inv-loop μ-loop
-loop-less c = omega arith
+returns c =
+    let h = c .before .before .before in
+    sym (all-not _ 8 (h .loop .j) (omega arith) (sym (c .before .pair-reads .ensures) ∙ not-true _ (c .if1 .taken)))
 
 loop-again : tie.Need-loop-again Inv-loop μ-loop
-loop-again c = (omega arith, all-more _ _ (c .before .before .before .loop .inv .1) (sym (c .before .pair-reads .ensures) ∙ not-false _ (c .if1 .left)))
+loop-again c =
+    (omega arith, all-more _ _ (c .before .before .before .loop .inv .1) (sym (c .before .pair-reads .ensures) ∙ not-false _ (c .if1 .left)))
 
 returns-2 : tie.Need-returns-2 Inv-loop μ-loop
 returns-2 c = let e : c .before .loop .j ≡ 8 = omega arith in sym (rw e at (c .before .loop .inv .1))
@@ -43,12 +37,4 @@ pub pairs-read-spec : {M : Type 1} → statement M
 pairs-read-spec =
     tie.close
     (tie.spec
-    Inv-loop
-    μ-loop
-    loop-holds
-    pair-reads-requires
-    returns
-    add-j
-    loop-less
-    loop-again
-    returns-2)
+    Inv-loop μ-loop loop-holds (λ c κs. search needs) returns (λ c. omega arith) (λ c. omega arith) loop-again returns-2)

@@ -15,9 +15,6 @@ use Rattle.labels.proofs.Records.{row-dropped, read-size}
 use Rattle.labels.proofs.read.Statement.{statement}
 use Rattle.labels.proofs.read.Tie as tie
 
-read-ok-requires : tie.Need-read-ok-requires
-read-ok-requires c κs = search needs
-
 returns : tie.Need-returns
 unfolding readStamp
 returns c = (rw (readStamp, sym (c .before .read-ok .ensures) ∙ not-true _ (c .if1 .taken)), refl)
@@ -42,4 +39,4 @@ returns-2 c =
 
 pub read-spec : {M : Type 1} → statement M
 read-spec =
-    tie.close (tie.spec read-ok-requires returns sixteen-requires shared-slice-read-t9 returns-2)
+    tie.close (tie.spec (λ c κs. search needs) returns sixteen-requires shared-slice-read-t9 returns-2)

@@ -22,39 +22,14 @@ Inv-loop desks row r₀ c₀ r c = (4 ≤ c) × (c ≤ 20) × Filled 20 c (λ i.
 abbrev μ-loop : tie.MeasureT-loop
 μ-loop desks row r₀ c₀ r c = 20 - c
 
-array-write-r : tie.Need-array-write-r Inv-loop μ-loop
-array-write-r c = search needs
-
-array-write-r-2 : tie.Need-array-write-r-2 Inv-loop μ-loop
-array-write-r-2 c = search needs
-
-array-write-r-3 : tie.Need-array-write-r-3 Inv-loop μ-loop
-array-write-r-3 c = search needs
-
-array-write-r-4 : tie.Need-array-write-r-4 Inv-loop μ-loop
-array-write-r-4 c = search needs
-
 loop-holds : tie.Need-loop-holds Inv-loop μ-loop
 loop-holds c =
     (omega arith, omega arith, record { size = simp length-set; at = λ i l. sym (rw (lt-ltb i 4 l)) })
 
-sub-r : tie.Need-sub-r Inv-loop μ-loop
-sub-r c = omega arith
-
-array-read-r : tie.Need-array-read-r Inv-loop μ-loop
-array-read-r c = omega arith
-
-array-write-r-5 : tie.Need-array-write-r-5 Inv-loop μ-loop
-array-write-r-5 c = omega arith
-
-add-c : tie.Need-add-c Inv-loop μ-loop
-add-c c = omega arith
-
-loop-less : tie.Need-loop-less Inv-loop μ-loop
-loop-less c = omega arith
-
 loop-again : tie.Need-loop-again Inv-loop μ-loop
-loop-again c = let h = c .before .loop in (omega arith, omega arith, filled-more 20 (h .c) _ (h .r) _ (h .inv .2) (omega arith) (sym (rw (le-ltb (h .c) 4 (omega arith)))))
+loop-again c =
+    let h = c .before .loop in
+    (omega arith, omega arith, filled-more 20 (h .c) _ (h .r) _ (h .inv .2) (omega arith) (sym (rw (le-ltb (h .c) 4 (omega arith)))))
 
 returns : tie.Need-returns Inv-loop μ-loop
 unfolding tab writeStamp markedByte rowByte
@@ -64,17 +39,5 @@ pub record-of-spec : {M : Type 1} → statement M
 record-of-spec =
     tie.close
     (tie.spec
-    Inv-loop
-    μ-loop
-    array-write-r
-    array-write-r-2
-    array-write-r-3
-    array-write-r-4
-    loop-holds
-    sub-r
-    array-read-r
-    array-write-r-5
-    add-c
-    loop-less
-    loop-again
-    returns)
+    Inv-loop μ-loop (λ c. search needs) (λ c. search needs) (λ c. search needs) (λ c. search needs) loop-holds (λ c. omega arith)
+    (λ c. omega arith) (λ c. omega arith) (λ c. omega arith) (λ c. omega arith) loop-again returns)

@@ -13,9 +13,6 @@ use Rattle.labels.proofs.Answered.{stamp-read, none-read, Both, flipped
 use Rattle.labels.proofs.taken_apart.Statement.{statement}
 use Rattle.labels.proofs.taken_apart.Tie as tie
 
-permits-requires : tie.Need-permits-requires
-permits-requires c κs = search needs
-
 returns : tie.Need-returns
 returns c = (λ out. rw (sym (c .before .permits .ensures) ∙ not-true _ (c .if1 .taken)), omega arith)
 
@@ -24,13 +21,17 @@ permit : (c : tie.Else1) → permits (c .before .before .before .before .args .s
 permit c = sym (c .before .permits .ensures) ∙ not-false _ (c .if1 .left)
 
 -- the first record tells a stamp
-one : (c : tie.After-known-told) → readStamp (c .before .before .before .before .before .before .before .before .before .args .s) (c .before .before .before .before .before .before .before .before .before .args .e .now)
+one : (c : tie.After-known-told)
+    → readStamp (c .before .before .before .before .before .before .before .before .before .args .s) (c .before .before .before .before .before .before .before .before .before .args .e .now)
     ≡ some (record { owner = c .before .one-who .given .0 .0; row = rowOf (c .before .before .before .before .read .result .row) })
 one c = stamp-read _ _ _ _ (c .before .before .before .before .read .ensures .0) _ (c .before .one-who .given .1)
 
 -- and so does the second
-both : (c : tie.After-known-told2) → Both (c .before .before .before .before .before .before .before .before .before .before .before .before .before .before .args .s) (c .before .before .before .before .before .before .before .before .before .before .before .before .before .before .args .e .now) (c .before .before .before .before .before .before .before .before .before .before .before .before .before .before .args .f .now)
-    (c .before .before .before .before .before .before .one-who .given .0 .0) (c .before .before .before .before .before .before .before .before .before .read .result .row) (c .before .two-who .given .0 .0) (c .before .before .before .before .read2 .result .row)
+both : (c : tie.After-known-told2)
+    → Both (c .before .before .before .before .before .before .before .before .before .before .before .before .before .before .args .s) (c .before .before .before .before .before .before .before .before .before .before .before .before .before .before .args .e .now) (c .before .before .before .before .before .before .before .before .before .before .before .before .before .before .args .f .now)
+    (c .before .before .before .before .before .before .one-who .given .0 .0)
+    (c .before .before .before .before .before .before .before .before .before .read .result .row) (c .before .two-who .given .0 .0)
+    (c .before .before .before .before .read2 .result .row)
 both c =
     record {
       permit = permit (c .before .before .before .before .before .before .before .before .before .before);
@@ -38,28 +39,10 @@ both c =
       two = stamp-read _ _ _ _ (c .before .before .before .before .read2 .ensures .0) _ (c .before .two-who .given .1);
     }
 
-read-requires : tie.Need-read-requires
-read-requires c κs = search needs
-
-enum-known-one-who : tie.Need-enum-known-one-who
-enum-known-one-who c = search needs
-
-enum-told : tie.Need-enum-told
-enum-told c = search needs
-
 returns-2 : tie.Need-returns-2
 returns-2 c =
     let r = c .before .before .before .read in
     (λ out. rw (permit (c .before .before .before .before), none-read _ _ _ _ (r .ensures .0) _ (c .enum-told .given .1)), omega arith)
-
-read-requires-2 : tie.Need-read-requires-2
-read-requires-2 c κs = search needs
-
-enum-known-two-who : tie.Need-enum-known-two-who
-enum-known-two-who c = search needs
-
-enum-told-2 : tie.Need-enum-told-2
-enum-told-2 c = search needs
 
 returns-3 : tie.Need-returns-3
 returns-3 c =
@@ -79,16 +62,5 @@ pub taken-apart-spec : {M : Type 1} → statement M
 taken-apart-spec =
     tie.close
     (tie.spec
-    permits-requires
-    returns
-    read-requires
-    enum-known-one-who
-    enum-told
-    returns-2
-    read-requires-2
-    enum-known-two-who
-    enum-told-2
-    returns-3
-    way-requires
-    way-requires-2
-    returns-4)
+    (λ c κs. search needs) returns (λ c κs. search needs) (λ c. search needs) (λ c. search needs) returns-2 (λ c κs. search needs)
+    (λ c. search needs) (λ c. search needs) returns-3 way-requires way-requires-2 returns-4)

@@ -19,38 +19,22 @@ abbrev μ-loop : tie.MeasureT-loop
 loop-holds : tie.Need-loop-holds Inv-loop μ-loop
 loop-holds c = (search needs, search needs, below-none _)
 
-array-read-part : tie.Need-array-read-part Inv-loop μ-loop
-array-read-part c = omega arith
-
-slice-write-part : tie.Need-slice-write-part Inv-loop μ-loop
-slice-write-part c = omega arith
-
-add-i : tie.Need-add-i Inv-loop μ-loop
-add-i c = omega arith
-
-loop-less : tie.Need-loop-less Inv-loop μ-loop
-loop-less c = omega arith
-
 loop-again : tie.Need-loop-again Inv-loop μ-loop
-loop-again c = let h = c .before .loop in let r = c .before .before .args .t2 in (omega arith, simp length-set (h .inv .1), below-more (λ t. getD (set (h .part) (h .i) (getD r (h .i) 0)) t 0 ≡ getD r t 0) (h .i) (λ t l. getD-set-other (h .part) (h .i) t _ 0 (omega arith) ∙ h .inv .2 t l) (getD-set-same (h .part) (h .i) _ 0 (omega arith)))
-
-same-length : tie.Need-same-length Inv-loop μ-loop
-same-length c = search needs
+loop-again c =
+    let h = c .before .loop in
+    let r = c .before .before .args .t2 in
+    (omega arith, simp length-set (h .inv .1), below-more (λ t. getD (set (h .part) (h .i) (getD r (h .i) 0)) t 0 ≡ getD r t 0) (h .i) (λ t l. getD-set-other (h .part) (h .i) t _ 0 (omega arith) ∙ h .inv .2 t l) (getD-set-same (h .part) (h .i) _ 0 (omega arith)))
 
 returns : tie.Need-returns Inv-loop μ-loop
-returns c = let h = c .before .loop in let e : h .i ≡ 16 = omega arith in let n : length (c .before .before .args .t2) ≡ 16 = search needs in ext-getD 0 _ _ (h .inv .1 ∙ sym n) (λ i l. h .inv .2 i (omega arith))
+returns c =
+    let h = c .before .loop in
+    let e : h .i ≡ 16 = omega arith in
+    let n : length (c .before .before .args .t2) ≡ 16 = search needs in
+    ext-getD 0 _ _ (h .inv .1 ∙ sym n) (λ i l. h .inv .2 i (omega arith))
 
 pub fill-row-spec : {M : Type 1} → statement M
 fill-row-spec =
     tie.close
     (tie.spec
-    Inv-loop
-    μ-loop
-    loop-holds
-    array-read-part
-    slice-write-part
-    add-i
-    loop-less
-    loop-again
-    same-length
+    Inv-loop μ-loop loop-holds (λ c. omega arith) (λ c. omega arith) (λ c. omega arith) (λ c. omega arith) loop-again (λ c. search needs)
     returns)

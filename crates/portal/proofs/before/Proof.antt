@@ -8,14 +8,8 @@ use borrow.Author.Needs.{needs}
 use Rattle.portal.proofs.before.Statement.{statement}
 use Rattle.portal.proofs.before.Tie as tie
 
-reach-number-requires : tie.Need-reach-number-requires
-reach-number-requires c κs = search needs
-
 returns : tie.Need-returns
 returns c = refused-answer _ _ _ (c .before .reach-number .ensures) (c .if1 .taken)
-
-is-before-requires : tie.Need-is-before-requires
-is-before-requires c κs = search needs
 
 returns-2 : tie.Need-returns-2
 returns-2 c = ap (λ (t : Bool). accepted (says t)) (sym (c .if2 .taken)) ∙ c .before .is-before .ensures
@@ -25,4 +19,4 @@ returns-3 c = ap (λ (t : Bool). accepted (says t)) (sym (c .if2 .left)) ∙ c .
 
 pub before-spec : {M : Type 1} → statement M
 before-spec =
-    tie.close (tie.spec reach-number-requires returns is-before-requires returns-2 returns-3)
+    tie.close (tie.spec (λ c κs. search needs) returns (λ c κs. search needs) returns-2 returns-3)

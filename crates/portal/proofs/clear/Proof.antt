@@ -7,14 +7,10 @@ use borrow.Author.Needs.{needs}
 use Rattle.portal.proofs.clear.Statement.{statement}
 use Rattle.portal.proofs.clear.Tie as tie
 
-post-requires : tie.Need-post-requires
-post-requires c κs = search needs
-
-same-length : tie.Need-same-length
-same-length c = search needs
-
 returns : tie.Need-returns
-returns c = let x = c .before .before .before .before .before .args in c .before .before .post .ensures ∙ ap (post (x .book .now) (x .k) 0 0) zero-bytes
+returns c =
+    let x = c .before .before .before .before .before .args in
+    c .before .before .post .ensures ∙ ap (post (x .book .now) (x .k) 0 0) zero-bytes
 
 pub clear-spec : {M : Type 1} → statement M
-clear-spec = tie.close (tie.spec post-requires same-length returns)
+clear-spec = tie.close (tie.spec (λ c κs. search needs) (λ c. search needs) returns)

@@ -13,18 +13,14 @@ use Rattle.portal.proofs.free.Statement.{statement}
 use Rattle.portal.proofs.free.Tie as tie
 
 -- its number is 0
-done : (c : tie.Else1) → usedNumber (c .before .before .before .before .args .book .now) (c .before .before .before .before .args .a) (c .before .before .before .before .args .p) ≡ 0
+done : (c : tie.Else1)
+    → usedNumber (c .before .before .before .before .args .book .now) (c .before .before .before .before .args .a) (c .before .before .before .before .args .p) ≡ 0
 done c = sym (c .before .used-number .ensures) ∙ c .if1 .left
 
 -- so the book is sound, and there is such a place or slot
-ready : (c : tie.Else1) → (sound (c .before .before .before .before .args .book .now) ≡ true) × (c .before .before .before .before .args .p < 32)
+ready : (c : tie.Else1)
+    → (sound (c .before .before .before .before .args .book .now) ≡ true) × (c .before .before .before .before .args .p < 32)
 ready c = used-ready _ (c .before .before .before .before .args .a) _ (done c)
-
-used-number-requires : tie.Need-used-number-requires
-used-number-requires c κs = search needs
-
-same-length : tie.Need-same-length
-same-length c = search needs
 
 returns : tie.Need-returns
 returns c =
@@ -38,9 +34,6 @@ add-clear c = omega (arith, ready (c .before) .1)
 clear-requires : tie.Need-clear-requires
 clear-requires c κs = (sound-size _ (ready (c .before) .0), omega (arith, ready (c .before) .1))
 
-same-length-2 : tie.Need-same-length-2
-same-length-2 c = search needs
-
 returns-2 : tie.Need-returns-2
 returns-2 c =
     let e = done (c .before .before .before .before) in
@@ -49,12 +42,4 @@ returns-2 c =
 
 pub free-spec : {M : Type 1} → statement M
 free-spec =
-    tie.close
-    (tie.spec
-    used-number-requires
-    same-length
-    returns
-    add-clear
-    clear-requires
-    same-length-2
-    returns-2)
+    tie.close (tie.spec (λ c κs. search needs) (λ c. search needs) returns add-clear clear-requires (λ c. search needs) returns-2)

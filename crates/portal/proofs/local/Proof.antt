@@ -9,42 +9,38 @@ use Rattle.portal.proofs.local.Statement.{statement}
 use Rattle.portal.proofs.local.Tie as tie
 
 -- what came in, and that its number is 0
-done : (c : tie.Else1) → numberOf (c .before .before .before .before .args .book .now) (local (c .before .before .before .before .args .desk)) ≡ 0
+done : (c : tie.Else1)
+    → numberOf (c .before .before .before .before .args .book .now) (local (c .before .before .before .before .args .desk)) ≡ 0
 done c = sym (c .before .local-number .ensures) ∙ c .if1 .left
 
-local-number-requires : tie.Need-local-number-requires
-local-number-requires c κs = search needs
-
-refused-requires : tie.Need-refused-requires
-refused-requires c κs = search needs
-
-same-length : tie.Need-same-length
-same-length c = search needs
-
 returns : tie.Need-returns
-returns c = let w = c .before .before .local-number in refused-stamps _ _ (w .result) (w .ensures) (c .before .if1 .taken) _ (c .refused .ensures)
+returns c =
+    let w = c .before .before .local-number in
+    refused-stamps _ _ (w .result) (w .ensures) (c .before .if1 .taken) _ (c .refused .ensures)
 
 grown-row-requires : tie.Need-grown-row-requires
-grown-row-requires c κs = let g = c .before in let x = g .before .before .before .before .args in local-grows (x .book .now) (x .desk) (done g)
+grown-row-requires c κs =
+    let g = c .before in
+    let x = g .before .before .before .before .args in
+    local-grows (x .book .now) (x .desk) (done g)
 
 take-row-requires : tie.Need-take-row-requires
-take-row-requires c κs = let g = c .before .before .before in let x = g .before .before .before .before .args in let a = local-grows (x .book .now) (x .desk) (done g) .at in (a .size, a .eight)
-
-same-length-2 : tie.Need-same-length-2
-same-length-2 c = search needs
+take-row-requires c κs =
+    let g = c .before .before .before in
+    let x = g .before .before .before .before .args in
+    let a = local-grows (x .book .now) (x .desk) (done g) .at in
+    (a .size, a .eight)
 
 returns-2 : tie.Need-returns-2
-returns-2 c = let g = c .before .before .before .before .before .before in let x = g .before .before .before .before .args in let t = c .before .before .take-row .ensures in local-stamps (x .book .now) (x .desk) (done g) _ _ _ (t .0) (c .before .before .before .before .grown-row .ensures) (t .1)
+returns-2 c =
+    let g = c .before .before .before .before .before .before in
+    let x = g .before .before .before .before .args in
+    let t = c .before .before .take-row .ensures in
+    local-stamps (x .book .now) (x .desk) (done g) _ _ _ (t .0) (c .before .before .before .before .grown-row .ensures) (t .1)
 
 pub local-spec : {M : Type 1} → statement M
 local-spec =
     tie.close
     (tie.spec
-    local-number-requires
-    refused-requires
-    same-length
-    returns
-    grown-row-requires
-    take-row-requires
-    same-length-2
+    (λ c κs. search needs) (λ c κs. search needs) (λ c. search needs) returns grown-row-requires take-row-requires (λ c. search needs)
     returns-2)

@@ -4,11 +4,8 @@ use borrow.Author.Needs.{needs}
 use Rattle.portal.proofs.refused.Statement.{statement}
 use Rattle.portal.proofs.refused.Tie as tie
 
-no-stamp-requires : tie.Need-no-stamp-requires
-no-stamp-requires c κs = search needs
-
 returns : tie.Need-returns
 returns c = cc
 
 pub refused-spec : {M : Type 1} → statement M
-refused-spec = tie.close (tie.spec no-stamp-requires returns)
+refused-spec = tie.close (tie.spec (λ c κs. search needs) returns)

@@ -13,7 +13,8 @@ use Rattle.portal.proofs.send.Statement.{statement}
 use Rattle.portal.proofs.send.Tie as tie
 
 -- what came in, and that its number is 0
-done : (c : tie.Else1) → numberOf (c .before .before .before .before .args .book .now) (send (c .before .before .before .before .args .desk) (c .before .before .before .before .args .to)) ≡ 0
+done : (c : tie.Else1)
+    → numberOf (c .before .before .before .before .args .book .now) (send (c .before .before .before .before .args .desk) (c .before .before .before .before .args .to)) ≡ 0
 done c = sym (c .before .send-number .ensures) ∙ c .if1 .left
 
 may : (c : tie.Else1) → Grows (c .before .before .before .before .args .book .now) (c .before .before .before .before .args .desk)
@@ -23,19 +24,15 @@ to : (c : tie.Else1) → c .before .before .before .before .args .to < 8
 to c = let x = c .before .before .before .before .args in send-to (x .book .now) (x .desk) (x .to) (done c)
 
 place : (c : tie.After-free-from) → c .free-from .result < 32
-place c = let g = c .before .before in let x = g .before .before .before .before .args in omega (arith, c .free-from .ensures, send-place (x .book .now) (x .desk) (x .to) (done g))
-
-send-number-requires : tie.Need-send-number-requires
-send-number-requires c κs = search needs
-
-no-stamp-requires : tie.Need-no-stamp-requires
-no-stamp-requires c κs = search needs
-
-same-length : tie.Need-same-length
-same-length c = search needs
+place c =
+    let g = c .before .before in
+    let x = g .before .before .before .before .args in
+    omega (arith, c .free-from .ensures, send-place (x .book .now) (x .desk) (x .to) (done g))
 
 returns : tie.Need-returns
-returns c = let w = c .before .before .send-number in refused-sends _ _ (w .result) (w .ensures) (c .before .if1 .taken) _ (c .no-stamp .ensures)
+returns c =
+    let w = c .before .before .send-number in
+    refused-sends _ _ (w .result) (w .ensures) (c .before .if1 .taken) _ (c .no-stamp .ensures)
 
 free-from-requires : tie.Need-free-from-requires
 free-from-requires c κs = (may (c .before) .at .size, search needs)
@@ -62,13 +59,12 @@ post-requires : tie.Need-post-requires
 post-requires c κs = (may (c .before .before .before .before .before) .at .size, omega (arith, place (c .before .before .before)))
 
 take-row-requires : tie.Need-take-row-requires
-take-row-requires c κs = let g = c .before .before .before .before .before .before .before .before .before in (c .before .before .before .post .kept .0 ∙ may g .at .size, may g .at .eight)
+take-row-requires c κs =
+    let g = c .before .before .before .before .before .before .before .before .before in
+    (c .before .before .before .post .kept .0 ∙ may g .at .size, may g .at .eight)
 
 cast-t23 : tie.Need-cast-t23
 cast-t23 c = omega (arith, place (c .before .before .before .before .before .before .before .before .before .before .before))
-
-same-length-2 : tie.Need-same-length-2
-same-length-2 c = search needs
 
 returns-2 : tie.Need-returns-2
 returns-2 c =
@@ -83,19 +79,5 @@ pub send-spec : {M : Type 1} → statement M
 send-spec =
     tie.close
     (tie.spec
-    send-number-requires
-    no-stamp-requires
-    same-length
-    returns
-    free-from-requires
-    grown-row-requires
-    add-post
-    add-post-2
-    cast-post
-    add-post-3
-    cast-post-2
-    post-requires
-    take-row-requires
-    cast-t23
-    same-length-2
-    returns-2)
+    (λ c κs. search needs) (λ c κs. search needs) (λ c. search needs) returns free-from-requires grown-row-requires add-post add-post-2
+    cast-post add-post-3 cast-post-2 post-requires take-row-requires cast-t23 (λ c. search needs) returns-2)

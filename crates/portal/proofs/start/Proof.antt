@@ -15,22 +15,21 @@ permitted c = sym (c .before .permits .ensures) ∙ not-false _ (c .if2 .left)
 returns : tie.Need-returns
 returns c = let x = c .before .before .args in start-badbook (x .book .now) (x .s) (c .if1 .taken)
 
-permits-requires : tie.Need-permits-requires
-permits-requires c κs = search needs
-
 returns-2 : tie.Need-returns-2
-returns-2 c = let x = c .before .before .before .before .args in start-badsetup (x .book .now) (x .s) (c .before .before .if1 .left) (sym (c .before .permits .ensures) ∙ not-true _ (c .if2 .taken))
+returns-2 c =
+    let x = c .before .before .before .before .args in
+    start-badsetup (x .book .now) (x .s) (c .before .before .if1 .left) (sym (c .before .permits .ensures) ∙ not-true _ (c .if2 .taken))
 
 write-fresh-requires : tie.Need-write-fresh-requires
 write-fresh-requires c κs = (c .before .before .before .if1 .left, permitted (c .before))
 
-same-length : tie.Need-same-length
-same-length c = search needs
-
 returns-3 : tie.Need-returns-3
-returns-3 c = let g = c .before .before .before .before in let x = g .before .before .before .before .args in let r = start-done (x .book .now) (x .s) (g .before .before .if1 .left) (permitted g) in (r .0, c .before .before .write-fresh .ensures ∙ r .1)
+returns-3 c =
+    let g = c .before .before .before .before in
+    let x = g .before .before .before .before .args in
+    let r = start-done (x .book .now) (x .s) (g .before .before .if1 .left) (permitted g) in
+    (r .0, c .before .before .write-fresh .ensures ∙ r .1)
 
 pub start-spec : {M : Type 1} → statement M
 start-spec =
-    tie.close
-    (tie.spec returns permits-requires returns-2 write-fresh-requires same-length returns-3)
+    tie.close (tie.spec returns (λ c κs. search needs) returns-2 write-fresh-requires (λ c. search needs) returns-3)

@@ -14,9 +14,6 @@ use borrow.Author.Needs.{needs}
 use Rattle.portal.proofs.write.Statement.{statement}
 use Rattle.portal.proofs.write.Tie as tie
 
-write-number-requires : tie.Need-write-number-requires
-write-number-requires c κs = search needs
-
 -- the number that write answers
 answered : (c : tie.After-write-number) → c .write-number .result
     ≡ answerTo (c .before .before .before .args .book .now) (on (write (c .before .before .before .args .slot) (length (c .before .before .before .args .target .now)))) .number
@@ -28,21 +25,12 @@ returns c =
     let n = c .before .write-number in
     (answered (c .before), write-refused (a .book .now) (a .slot) (a .target .now) (n .result) (n .ensures) (c .if1 .taken))
 
-record-at-requires : tie.Need-record-at-requires
-record-at-requires c κs = search needs
-
-slice-aggregate-lend : tie.Need-slice-aggregate-lend
-slice-aggregate-lend c = search needs
-
 lend-requires : tie.Need-lend-requires
 lend-requires c κs =
     let a = c .before .before .before .before .before .before .before .args in
     let e = c .before .before .before in
     let n : length (c .before .before .record-at .result) ≡ 20 = search needs in
     omega (arith, n, write-room (a .book .now) (a .slot) _ (sym (e .before .write-number .ensures) ∙ e .if1 .left))
-
-same-length : tie.Need-same-length
-same-length c = search needs
 
 returns-2 : tie.Need-returns-2
 returns-2 c =
@@ -54,10 +42,4 @@ pub write-spec : {M : Type 1} → statement M
 write-spec =
     tie.close
     (tie.spec
-    write-number-requires
-    returns
-    record-at-requires
-    slice-aggregate-lend
-    lend-requires
-    same-length
-    returns-2)
+    (λ c κs. search needs) returns (λ c κs. search needs) (λ c. search needs) lend-requires (λ c. search needs) returns-2)

@@ -15,41 +15,30 @@ Inv-loop book₀ k₀ book k = (k ≤ 72) × Written (byte book₀) k book
 abbrev μ-loop : tie.MeasureT-loop
 μ-loop book₀ k₀ book k = 72 - k
 
-write-head-requires : tie.Need-write-head-requires Inv-loop μ-loop
-write-head-requires c κs = search needs
-
 loop-holds : tie.Need-loop-holds Inv-loop μ-loop
 loop-holds c = (search needs, written-none _ (c .before .before .write-head .ensures .size))
 
 write-free-requires : tie.Need-write-free-requires Inv-loop μ-loop
 write-free-requires c κs = let h = c .before .before .loop in (h .inv .1 .size, omega arith)
 
-add-k : tie.Need-add-k Inv-loop μ-loop
-add-k c = omega arith
-
-loop-less : tie.Need-loop-less Inv-loop μ-loop
-loop-less c = omega arith
-
 loop-again : tie.Need-loop-again Inv-loop μ-loop
-loop-again c = let h = c .before .before .before .before .before in (omega arith, rw (c .before .before .write-free .ensures) (written-more _ (h .loop .k) (h .loop .book) (h .loop .inv .1) (omega arith)))
+loop-again c =
+    let h = c .before .before .before .before .before in
+    (omega arith, rw (c .before .before .write-free .ensures) (written-more _ (h .loop .k) (h .loop .book) (h .loop .inv .1) (omega arith)))
 
 same-length : tie.Need-same-length Inv-loop μ-loop
 same-length c = c .before .loop .inv .1 .size ∙ sym (c .before .before .before .before .before .before .before .pre .0)
 
 returns : tie.Need-returns Inv-loop μ-loop
-returns c = let h = c .before in let e : h .loop .k ≡ 72 = omega arith in written-all (h .before .before .before .before .before .before .args .s) _ (h .loop .book) (h .before .before .before .write-head .ensures) (rw e at (h .loop .inv .1))
+returns c =
+    let h = c .before in
+    let e : h .loop .k ≡ 72 = omega arith in
+    written-all (h .before .before .before .before .before .before .args .s) _ (h .loop .book)
+    (h .before .before .before .write-head .ensures) (rw e at (h .loop .inv .1))
 
 pub write-fresh-spec : {M : Type 1} → statement M
 write-fresh-spec =
     tie.close
     (tie.spec
-    Inv-loop
-    μ-loop
-    write-head-requires
-    loop-holds
-    write-free-requires
-    add-k
-    loop-less
-    loop-again
-    same-length
+    Inv-loop μ-loop (λ c κs. search needs) loop-holds write-free-requires (λ c. omega arith) (λ c. omega arith) loop-again same-length
     returns)

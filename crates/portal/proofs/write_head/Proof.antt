@@ -25,17 +25,8 @@ head-of-requires c κs = c .before .pre .1
 loop-holds : tie.Need-loop-holds Inv-loop μ-loop
 loop-holds c = (search needs, filled-none 1456 _ _ (c .before .before .pre .0))
 
-array-read-book : tie.Need-array-read-book Inv-loop μ-loop
-array-read-book c = omega arith
-
 slice-write-book : tie.Need-slice-write-book Inv-loop μ-loop
 slice-write-book c = omega (arith, c .before .loop .inv .1 .size)
-
-add-i : tie.Need-add-i Inv-loop μ-loop
-add-i c = omega arith
-
-loop-less : tie.Need-loop-less Inv-loop μ-loop
-loop-less c = omega arith
 
 loop-again : tie.Need-loop-again Inv-loop μ-loop
 loop-again c = let h = c .before in (omega arith, filled-more 1456 (h .loop .i) _ (h .loop .book) _ (h .loop .inv .1) (omega arith) refl)
@@ -44,20 +35,15 @@ same-length : tie.Need-same-length Inv-loop μ-loop
 same-length c = c .before .loop .inv .1 .size ∙ sym (c .before .before .before .before .pre .0)
 
 returns : tie.Need-returns Inv-loop μ-loop
-returns c = let h = c .before in let e : h .loop .i ≡ 16 = omega arith in filled-from 1456 16 _ _ (h .loop .book) (rw e at (h .loop .inv .1)) (λ i l. ap (λ (x : List ℕ). byte x i) (h .before .head-of .ensures) ∙ tab-at 16 (headByte (h .before .before .before .args .s)) i l)
+returns c =
+    let h = c .before in
+    let e : h .loop .i ≡ 16 = omega arith in
+    filled-from 1456 16 _ _ (h .loop .book) (rw e at (h .loop .inv .1))
+    (λ i l. ap (λ (x : List ℕ). byte x i) (h .before .head-of .ensures) ∙ tab-at 16 (headByte (h .before .before .before .args .s)) i l)
 
 pub write-head-spec : {M : Type 1} → statement M
 write-head-spec =
     tie.close
     (tie.spec
-    Inv-loop
-    μ-loop
-    head-of-requires
-    loop-holds
-    array-read-book
-    slice-write-book
-    add-i
-    loop-less
-    loop-again
-    same-length
-    returns)
+    Inv-loop μ-loop head-of-requires loop-holds (λ c. omega arith) slice-write-book (λ c. omega arith) (λ c. omega arith) loop-again
+    same-length returns)

@@ -7,21 +7,11 @@ use borrow.Author.Needs.{needs}
 use Rattle.refusals.proofs.at_limit.Statement.{statement}
 use Rattle.refusals.proofs.at_limit.Tie as tie
 
-clock-at-requires : tie.Need-clock-at-requires
-clock-at-requires c κs = search needs
-
-wide-requires : tie.Need-wide-requires
-wide-requires c κs = search needs
-
-add-result : tie.Need-add-result
-add-result c = search needs
-
-clocks-of-requires : tie.Need-clocks-of-requires
-clocks-of-requires c κs = search needs
-
 returns : tie.Need-returns
-returns c = let x = c .before .before .before .before in cc (ap (λ (q : Pair). q .clock) (own-at (x .args .book .now) (x .args .desk) (x .pre .eight)))
+returns c =
+    let x = c .before .before .before .before in
+    cc (ap (λ (q : Pair). q .clock) (own-at (x .args .book .now) (x .args .desk) (x .pre .eight)))
 
 pub at-limit-spec : {M : Type 1} → statement M
 at-limit-spec =
-    tie.close (tie.spec clock-at-requires wide-requires add-result clocks-of-requires returns)
+    tie.close (tie.spec (λ c κs. search needs) (λ c κs. search needs) (λ c. search needs) (λ c κs. search needs) returns)

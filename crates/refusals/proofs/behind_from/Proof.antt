@@ -20,17 +20,10 @@ abbrev μ-loop : tie.MeasureT-loop
 loop-holds : tie.Need-loop-holds Inv-loop μ-loop
 loop-holds c = (search needs, any-none _)
 
-lags-at-requires : tie.Need-lags-at-requires Inv-loop μ-loop
-lags-at-requires c κs = search needs
-
 returns : tie.Need-returns Inv-loop μ-loop
-returns c = let h = c .before .before .before in sym (any-at 32 _ (h .loop .p) (omega arith) (sym (c .before .lags-at .ensures) ∙ c .if1 .taken))
-
-add-p : tie.Need-add-p Inv-loop μ-loop
-add-p c = omega arith
-
-loop-less : tie.Need-loop-less Inv-loop μ-loop
-loop-less c = omega arith
+returns c =
+    let h = c .before .before .before in
+    sym (any-at 32 _ (h .loop .p) (omega arith) (sym (c .before .lags-at .ensures) ∙ c .if1 .taken))
 
 loop-again : tie.Need-loop-again Inv-loop μ-loop
 loop-again c = (omega arith, any-more _ _ (c .before .before .before .loop .inv .1) (sym (c .before .lags-at .ensures) ∙ c .if1 .left))
@@ -42,12 +35,4 @@ pub behind-from-spec : {M : Type 1} → statement M
 behind-from-spec =
     tie.close
     (tie.spec
-    Inv-loop
-    μ-loop
-    loop-holds
-    lags-at-requires
-    returns
-    add-p
-    loop-less
-    loop-again
-    returns-2)
+    Inv-loop μ-loop loop-holds (λ c κs. search needs) returns (λ c. omega arith) (λ c. omega arith) loop-again returns-2)

@@ -22,34 +22,27 @@ abbrev μ-loop : tie.MeasureT-loop
 loop-holds : tie.Need-loop-holds Inv-loop μ-loop
 loop-holds c = (search needs, below-none _)
 
-is-used-requires : tie.Need-is-used-requires Inv-loop μ-loop
-is-used-requires c κs = search needs
-
 returns : tie.Need-returns Inv-loop μ-loop
-returns c = let h = c .before .before .before in let x = h .before .before .args in sym (lowest-at 32 (λ p. not (used (heldAt (x .book .now) (x .a) p))) (h .loop .p) (omega arith) (h .loop .inv .1) (ap not (sym (c .before .is-used .ensures ∙ used-held (x .book .now) (x .a) (h .loop .p) (omega arith))) ∙ c .if1 .taken))
-
-add-p : tie.Need-add-p Inv-loop μ-loop
-add-p c = omega arith
-
-loop-less : tie.Need-loop-less Inv-loop μ-loop
-loop-less c = omega arith
+returns c =
+    let h = c .before .before .before in
+    let x = h .before .before .args in
+    sym
+    (lowest-at 32 (λ p. not (used (heldAt (x .book .now) (x .a) p))) (h .loop .p) (omega arith) (h .loop .inv .1) (ap not (sym (c .before .is-used .ensures ∙ used-held (x .book .now) (x .a) (h .loop .p) (omega arith))) ∙ c .if1 .taken))
 
 loop-again : tie.Need-loop-again Inv-loop μ-loop
-loop-again c = let h = c .before .before .before in let x = h .before .before .args in (omega arith, below-more (λ k. not (used (heldAt (x .book .now) (x .a) k)) ≡ false) (h .loop .p) (h .loop .inv .1) (ap not (sym (c .before .is-used .ensures ∙ used-held (x .book .now) (x .a) (h .loop .p) (omega arith))) ∙ c .if1 .left))
+loop-again c =
+    let h = c .before .before .before in
+    let x = h .before .before .args in
+    (omega arith, below-more (λ k. not (used (heldAt (x .book .now) (x .a) k)) ≡ false) (h .loop .p) (h .loop .inv .1) (ap not (sym (c .before .is-used .ensures ∙ used-held (x .book .now) (x .a) (h .loop .p) (omega arith))) ∙ c .if1 .left))
 
 returns-2 : tie.Need-returns-2 Inv-loop μ-loop
-returns-2 c = let h = c .before in let x = h .before .before .args in sym (lowest-none 32 (λ p. not (used (heldAt (x .book .now) (x .a) p))) (λ k l. h .loop .inv .1 k (omega arith)))
+returns-2 c =
+    let h = c .before in
+    let x = h .before .before .args in
+    sym (lowest-none 32 (λ p. not (used (heldAt (x .book .now) (x .a) p))) (λ k l. h .loop .inv .1 k (omega arith)))
 
 pub free-from-spec : {M : Type 1} → statement M
 free-from-spec =
     tie.close
     (tie.spec
-    Inv-loop
-    μ-loop
-    loop-holds
-    is-used-requires
-    returns
-    add-p
-    loop-less
-    loop-again
-    returns-2)
+    Inv-loop μ-loop loop-holds (λ c κs. search needs) returns (λ c. omega arith) (λ c. omega arith) loop-again returns-2)

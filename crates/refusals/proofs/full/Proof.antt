@@ -4,11 +4,8 @@ use borrow.Author.Needs.{needs}
 use Rattle.refusals.proofs.full.Statement.{statement}
 use Rattle.refusals.proofs.full.Tie as tie
 
-free-from-requires : tie.Need-free-from-requires
-free-from-requires c κs = search needs
-
 returns : tie.Need-returns
 returns c = cc
 
 pub full-spec : {M : Type 1} → statement M
-full-spec = tie.close (tie.spec free-from-requires returns)
+full-spec = tie.close (tie.spec (λ c κs. search needs) returns)

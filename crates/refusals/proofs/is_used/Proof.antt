@@ -13,14 +13,10 @@ use Rattle.refusals.proofs.is_used.Tie as tie
 returns : tie.Need-returns
 returns c = let x = c .before .before .args in none-beyond (x .book .now) (x .a) (x .p) (omega arith)
 
-add-tag-a : tie.Need-add-tag-a
-add-tag-a c = search needs
-
-tag-a-requires : tie.Need-tag-a-requires
-tag-a-requires c κs = search needs
-
 returns-2 : tie.Need-returns-2
-returns-2 c = let x = c .before .before .before .args in ap (λ (n : ℕ). not (eqb n 0)) (c .tag-a .ensures) ∙ used-tag (x .book .now) (x .a) (x .p) (omega arith)
+returns-2 c =
+    let x = c .before .before .before .args in
+    ap (λ (n : ℕ). not (eqb n 0)) (c .tag-a .ensures) ∙ used-tag (x .book .now) (x .a) (x .p) (omega arith)
 
 pub is-used-spec : {M : Type 1} → statement M
-is-used-spec = tie.close (tie.spec returns add-tag-a tag-a-requires returns-2)
+is-used-spec = tie.close (tie.spec returns (λ c. search needs) (λ c κs. search needs) returns-2)

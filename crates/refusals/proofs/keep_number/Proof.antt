@@ -11,9 +11,6 @@ use Rattle.refusals.proofs.keep_number.Tie as tie
 there : (c : tie.Else1) → Seated (c .before .before .before .args .book .now) (c .before .before .before .args .desk)
 there c = seated _ _ (sym (c .before .desk-number .ensures) ∙ c .if1 .left)
 
-desk-number-requires : tie.Need-desk-number-requires
-desk-number-requires c κs = search needs
-
 returns : tie.Need-returns
 unfolding reasons
 returns c =
@@ -47,12 +44,4 @@ returns-4 c =
 
 pub keep-number-spec : {M : Type 1} → statement M
 keep-number-spec =
-    tie.close
-    (tie.spec
-    desk-number-requires
-    returns
-    unstarted-requires
-    returns-2
-    full-requires
-    returns-3
-    returns-4)
+    tie.close (tie.spec (λ c κs. search needs) returns unstarted-requires returns-2 full-requires returns-3 returns-4)

@@ -6,31 +6,17 @@ use borrow.Author.Needs.{needs}
 use Rattle.refusals.proofs.lag_at.Statement.{statement}
 use Rattle.refusals.proofs.lag_at.Tie as tie
 
-phase-at-requires : tie.Need-phase-at-requires
-phase-at-requires c κs = search needs
-
-phase-at-requires-2 : tie.Need-phase-at-requires-2
-phase-at-requires-2 c κs = search needs
-
-phases-of-requires : tie.Need-phases-of-requires
-phases-of-requires c κs = search needs
-
 lag-requires : tie.Need-lag-requires
-lag-requires c κs = let x = c .before .before .before .before in let s = x .args .book .now in let j = x .args .desk in omega (arith, phase-below s (x .pre .0 .whole) j j (omega arith) (omega arith), phase-below s (x .pre .0 .whole) (x .args .k) j (omega arith) (omega arith))
-
-wide-requires : tie.Need-wide-requires
-wide-requires c κs = search needs
+lag-requires c κs =
+    let x = c .before .before .before .before in
+    let s = x .args .book .now in
+    let j = x .args .desk in
+    omega
+    (arith, phase-below s (x .pre .0 .whole) j j (omega arith) (omega arith), phase-below s (x .pre .0 .whole) (x .args .k) j (omega arith) (omega arith))
 
 returns : tie.Need-returns
 returns c = cc
 
 pub lag-at-spec : {M : Type 1} → statement M
 lag-at-spec =
-    tie.close
-    (tie.spec
-    phase-at-requires
-    phase-at-requires-2
-    phases-of-requires
-    lag-requires
-    wide-requires
-    returns)
+    tie.close (tie.spec (λ c κs. search needs) (λ c κs. search needs) (λ c κs. search needs) lag-requires (λ c κs. search needs) returns)

@@ -11,9 +11,6 @@ use Rattle.refusals.proofs.local_number.Tie as tie
 there : (c : tie.Else1) → Seated (c .before .before .before .args .book .now) (c .before .before .before .args .desk)
 there c = seated _ _ (sym (c .before .desk-number .ensures) ∙ c .if1 .left)
 
-desk-number-requires : tie.Need-desk-number-requires
-desk-number-requires c κs = search needs
-
 returns : tie.Need-returns
 unfolding reasons
 returns c =
@@ -34,10 +31,4 @@ returns-3 c = let d = there (c .before .before) in rw (d .whole, d .desk, sym (c
 
 pub local-number-spec : {M : Type 1} → statement M
 local-number-spec =
-    tie.close
-    (tie.spec
-    desk-number-requires
-    returns
-    at-limit-requires
-    returns-2
-    returns-3)
+    tie.close (tie.spec (λ c κs. search needs) returns at-limit-requires returns-2 returns-3)

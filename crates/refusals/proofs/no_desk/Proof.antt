@@ -4,11 +4,8 @@ use borrow.Author.Needs.{needs}
 use Rattle.refusals.proofs.no_desk.Statement.{statement}
 use Rattle.refusals.proofs.no_desk.Tie as tie
 
-desks-of-requires : tie.Need-desks-of-requires
-desks-of-requires c κs = search needs
-
 returns : tie.Need-returns
 returns c = cc
 
 pub no-desk-spec : {M : Type 1} → statement M
-no-desk-spec = tie.close (tie.spec desks-of-requires returns)
+no-desk-spec = tie.close (tie.spec (λ c κs. search needs) returns)

@@ -19,9 +19,6 @@ waits : (c : tie.Else2)
     → usedAt (c .before .before .before .before .before .args .book .now) 8 (c .before .before .before .before .before .args .place) ≡ true
 waits c = sym (c .before .is-used .ensures) ∙ not-false _ (c .if2 .left)
 
-desk-number-requires : tie.Need-desk-number-requires
-desk-number-requires c κs = search needs
-
 returns : tie.Need-returns
 unfolding reasons
 returns c =
@@ -83,12 +80,4 @@ pub receive-number-spec : {M : Type 1} → statement M
 receive-number-spec =
     tie.close
     (tie.spec
-    desk-number-requires
-    returns
-    is-used-requires
-    returns-2
-    not-yours-requires
-    returns-3
-    at-limit-requires
-    returns-4
-    returns-5)
+    (λ c κs. search needs) returns is-used-requires returns-2 not-yours-requires returns-3 at-limit-requires returns-4 returns-5)

@@ -11,9 +11,6 @@ use Rattle.refusals.proofs.reset_number.Tie as tie
 there : (c : tie.Else1) → Seated (c .before .before .before .args .book .now) (c .before .before .before .args .desk)
 there c = seated _ _ (sym (c .before .desk-number .ensures) ∙ c .if1 .left)
 
-desk-number-requires : tie.Need-desk-number-requires
-desk-number-requires c κs = search needs
-
 returns : tie.Need-returns
 unfolding reasons
 returns c =
@@ -73,12 +70,4 @@ pub reset-number-spec : {M : Type 1} → statement M
 reset-number-spec =
     tie.close
     (tie.spec
-    desk-number-requires
-    returns
-    seats-behind-requires
-    returns-2
-    mail-behind-requires
-    returns-3
-    shelf-behind-requires
-    returns-4
-    returns-5)
+    (λ c κs. search needs) returns seats-behind-requires returns-2 mail-behind-requires returns-3 shelf-behind-requires returns-4 returns-5)

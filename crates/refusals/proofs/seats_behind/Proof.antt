@@ -19,41 +19,37 @@ Inv-loop book desk d k₀ k = (k ≤ d) × (any k (seatLagsAt book desk) ≡ fal
 abbrev μ-loop : tie.MeasureT-loop
 μ-loop book desk d k₀ k = d - k
 
-desks-of-requires : tie.Need-desks-of-requires Inv-loop μ-loop
-desks-of-requires c κs = search needs
-
 loop-holds : tie.Need-loop-holds Inv-loop μ-loop
 loop-holds c = (omega arith, any-none _, c .desks-of .ensures)
 
 seat-lags-requires : tie.Need-seat-lags-requires Inv-loop μ-loop
-seat-lags-requires c κs = let h = c .before in let x = h .before .before .before in let f = few-desks (x .args .book .now) (x .pre .whole) in let e = h .loop .inv .2 in (x .pre, omega arith)
+seat-lags-requires c κs =
+    let h = c .before in
+    let x = h .before .before .before in
+    let f = few-desks (x .args .book .now) (x .pre .whole) in
+    let e = h .loop .inv .2 in
+    (x .pre, omega arith)
 
 returns : tie.Need-returns Inv-loop μ-loop
-returns c = let h = c .before .before .before in let e = h .loop .inv .2 in sym (any-at (byte (h .before .before .before .args .book .now) 2) _ (h .loop .k) (omega arith) (sym (c .before .seat-lags .ensures) ∙ c .if1 .taken))
-
-add-k : tie.Need-add-k Inv-loop μ-loop
-add-k c = omega arith
-
-loop-less : tie.Need-loop-less Inv-loop μ-loop
-loop-less c = omega arith
+returns c =
+    let h = c .before .before .before in
+    let e = h .loop .inv .2 in
+    sym
+    (any-at (byte (h .before .before .before .args .book .now) 2) _ (h .loop .k) (omega arith) (sym (c .before .seat-lags .ensures) ∙ c .if1 .taken))
 
 loop-again : tie.Need-loop-again Inv-loop μ-loop
-loop-again c = let h = c .before .before .before in (omega arith, any-more _ _ (h .loop .inv .1) (sym (c .before .seat-lags .ensures) ∙ c .if1 .left), h .loop .inv .2)
+loop-again c =
+    let h = c .before .before .before in
+    (omega arith, any-more _ _ (h .loop .inv .1) (sym (c .before .seat-lags .ensures) ∙ c .if1 .left), h .loop .inv .2)
 
 returns-2 : tie.Need-returns-2 Inv-loop μ-loop
-returns-2 c = let h = c .before in let e : h .loop .k ≡ byte (h .before .before .before .args .book .now) 2 = (let z = h .loop .inv .2 in omega arith) in sym (rw e at (h .loop .inv .1))
+returns-2 c =
+    let h = c .before in
+    let e : h .loop .k ≡ byte (h .before .before .before .args .book .now) 2 = (let z = h .loop .inv .2 in omega arith) in
+    sym (rw e at (h .loop .inv .1))
 
 pub seats-behind-spec : {M : Type 1} → statement M
 seats-behind-spec =
     tie.close
     (tie.spec
-    Inv-loop
-    μ-loop
-    desks-of-requires
-    loop-holds
-    seat-lags-requires
-    returns
-    add-k
-    loop-less
-    loop-again
-    returns-2)
+    Inv-loop μ-loop (λ c κs. search needs) loop-holds seat-lags-requires returns (λ c. omega arith) (λ c. omega arith) loop-again returns-2)

@@ -29,11 +29,9 @@ asked c = λ i. c .before .no-desk .ensures i || c .no-desk2 .ensures i
 desks : (c : tie.Else2) → neither (c .before .before) ≡ false
 desks c = sym (asked (c .before)) ∙ c .if2 .left
 
-there : (c : tie.Else2) → AtDesk (c .before .before .before .before .before .before .args .book .now) (c .before .before .before .before .before .before .args .desk)
+there : (c : tie.Else2)
+    → AtDesk (c .before .before .before .before .before .before .args .book .now) (c .before .before .before .before .before .before .args .desk)
 there c = desk-there _ _ (whole (c .before .before .before)) (or-false-l _ _ (desks c))
-
-sound-requires : tie.Need-sound-requires
-sound-requires c κs = search needs
 
 returns : tie.Need-returns
 returns c = rw (sym (c .before .sound .ensures) ∙ not-true _ (c .if1 .taken))
@@ -57,31 +55,31 @@ at-limit-requires c κs = there (c .before)
 
 returns-4 : tie.Need-returns-4
 unfolding reasons
-returns-4 c = let d = c .before .before .before in rw (whole (d .before .before .before), desks d, ne-eqb _ _ (c .before .before .if3 .left), sym (c .before .at-limit .ensures) ∙ c .if4 .taken)
+returns-4 c =
+    let d = c .before .before .before in
+    rw
+    (whole (d .before .before .before), desks d, ne-eqb _ _ (c .before .before .if3 .left), sym (c .before .at-limit .ensures) ∙ c .if4 .taken)
 
 full-requires : tie.Need-full-requires
 full-requires c κs = (there (c .before .before .before) .size, search needs)
 
 returns-5 : tie.Need-returns-5
 unfolding reasons
-returns-5 c = let d = c .before .before .before .before .before in rw (whole (d .before .before .before), desks d, ne-eqb _ _ (c .before .before .before .before .if3 .left), sym (c .before .before .before .at-limit .ensures) ∙ c .before .before .if4 .left, sym (c .before .full .ensures) ∙ c .if5 .taken)
+returns-5 c =
+    let d = c .before .before .before .before .before in
+    rw
+    (whole (d .before .before .before), desks d, ne-eqb _ _ (c .before .before .before .before .if3 .left), sym (c .before .before .before .at-limit .ensures) ∙ c .before .before .if4 .left, sym (c .before .full .ensures) ∙ c .if5 .taken)
 
 returns-6 : tie.Need-returns-6
 unfolding reasons
-returns-6 c = let d = c .before .before .before .before .before in rw (whole (d .before .before .before), desks d, ne-eqb _ _ (c .before .before .before .before .if3 .left), sym (c .before .before .before .at-limit .ensures) ∙ c .before .before .if4 .left, sym (c .before .full .ensures) ∙ c .if5 .left)
+returns-6 c =
+    let d = c .before .before .before .before .before in
+    rw
+    (whole (d .before .before .before), desks d, ne-eqb _ _ (c .before .before .before .before .if3 .left), sym (c .before .before .before .at-limit .ensures) ∙ c .before .before .if4 .left, sym (c .before .full .ensures) ∙ c .if5 .left)
 
 pub send-number-spec : {M : Type 1} → statement M
 send-number-spec =
     tie.close
     (tie.spec
-    sound-requires
-    returns
-    no-desk-requires
-    no-desk-requires-2
-    returns-2
-    returns-3
-    at-limit-requires
-    returns-4
-    full-requires
-    returns-5
-    returns-6)
+    (λ c κs. search needs) returns no-desk-requires no-desk-requires-2 returns-2 returns-3 at-limit-requires returns-4 full-requires
+    returns-5 returns-6)

@@ -9,11 +9,8 @@ use borrow.Author.Needs.{needs}
 use Rattle.refusals.proofs.unstarted.Statement.{statement}
 use Rattle.refusals.proofs.unstarted.Tie as tie
 
-tag-a-requires : tie.Need-tag-a-requires
-tag-a-requires c κs = search needs
-
 returns : tie.Need-returns
 returns c = let x = c .before .before in rw (lt-ltb (x .args .desk) 8 (x .pre .eight)) (ap (λ (n : ℕ). not (eqb n 1)) (c .tag-a .ensures))
 
 pub unstarted-spec : {M : Type 1} → statement M
-unstarted-spec = tie.close (tie.spec tag-a-requires returns)
+unstarted-spec = tie.close (tie.spec (λ c κs. search needs) returns)

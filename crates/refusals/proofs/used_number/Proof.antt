@@ -13,9 +13,6 @@ use Rattle.refusals.proofs.used_number.Tie as tie
 whole : (c : tie.Else1) → sound (c .before .before .before .args .book .now) ≡ true
 whole c = sym (c .before .sound .ensures) ∙ not-false _ (c .if1 .left)
 
-sound-requires : tie.Need-sound-requires
-sound-requires c κs = search needs
-
 returns : tie.Need-returns
 returns c = rw (sym (c .before .sound .ensures) ∙ not-true _ (c .if1 .taken))
 
@@ -29,4 +26,5 @@ returns-3 : tie.Need-returns-3
 returns-3 c = rw (whole (c .before .before), ap not (sym (c .before .is-used .ensures)) ∙ c .if2 .left)
 
 pub used-number-spec : {M : Type 1} → statement M
-used-number-spec = tie.close (tie.spec sound-requires returns is-used-requires returns-2 returns-3)
+used-number-spec =
+    tie.close (tie.spec (λ c κs. search needs) returns is-used-requires returns-2 returns-3)

@@ -4,19 +4,11 @@ use borrow.Author.Needs.{needs}
 use Rattle.replies.proofs.put_number.Statement.{statement}
 use Rattle.replies.proofs.put_number.Tie as tie
 
-put-three-requires : tie.Need-put-three-requires
-put-three-requires c κs = search needs
-
-put-byte-requires : tie.Need-put-byte-requires
-put-byte-requires c κs = search needs
-
-same-length : tie.Need-same-length
-same-length c = search needs
-
 returns : tie.Need-returns
 returns c =
     λ D.
     then (c .before .before .before .before .before .before .put-three .ensures) (c .before .before .put-byte .ensures)
 
 pub put-number-spec : {M : Type 1} → statement M
-put-number-spec = tie.close (tie.spec put-three-requires put-byte-requires same-length returns)
+put-number-spec =
+    tie.close (tie.spec (λ c κs. search needs) (λ c κs. search needs) (λ c. search needs) returns)

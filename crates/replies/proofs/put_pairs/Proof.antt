@@ -32,29 +32,8 @@ loop-holds : tie.Need-loop-holds Inv-loop μ-loop
 unfolding pairs
 loop-holds c = (search needs, none (c .before .args .out .now) (c .before .args .at) (omega arith))
 
-mul-put-pair : tie.Need-mul-put-pair Inv-loop μ-loop
-mul-put-pair c = omega arith
-
-array-read-put-pair : tie.Need-array-read-put-pair Inv-loop μ-loop
-array-read-put-pair c = omega arith
-
-mul-put-pair-2 : tie.Need-mul-put-pair-2 Inv-loop μ-loop
-mul-put-pair-2 c = omega arith
-
-add-put-pair : tie.Need-add-put-pair Inv-loop μ-loop
-add-put-pair c = omega arith
-
-array-read-put-pair-2 : tie.Need-array-read-put-pair-2 Inv-loop μ-loop
-array-read-put-pair-2 c = omega arith
-
 put-pair-requires : tie.Need-put-pair-requires Inv-loop μ-loop
 put-pair-requires c κs = omega (arith, room (c .before .before))
-
-add-j : tie.Need-add-j Inv-loop μ-loop
-add-j c = omega arith
-
-loop-less : tie.Need-loop-less Inv-loop μ-loop
-loop-less c = omega arith
 
 loop-again : tie.Need-loop-again Inv-loop μ-loop
 unfolding pairs
@@ -74,17 +53,5 @@ pub put-pairs-spec : {M : Type 1} → statement M
 put-pairs-spec =
     tie.close
     (tie.spec
-    Inv-loop
-    μ-loop
-    loop-holds
-    mul-put-pair
-    array-read-put-pair
-    mul-put-pair-2
-    add-put-pair
-    array-read-put-pair-2
-    put-pair-requires
-    add-j
-    loop-less
-    loop-again
-    same-length
-    returns)
+    Inv-loop μ-loop loop-holds (λ c. omega arith) (λ c. omega arith) (λ c. omega arith) (λ c. omega arith) (λ c. omega arith)
+    put-pair-requires (λ c. omega arith) (λ c. omega arith) loop-again same-length returns)

@@ -13,15 +13,6 @@ use Rattle.replies.proofs.put_sent.Tie as tie
 few : (c : tie.After-place) → c .before .before .before .args .desks ≤ 8
 few c = c .before .before .before .pre .0 (rw (c .place .given .1))
 
-enum-known-place : tie.Need-enum-known-place
-enum-known-place c = search needs
-
-put-three-requires : tie.Need-put-three-requires
-put-three-requires c κs = search needs
-
-put-field-requires : tie.Need-put-field-requires
-put-field-requires c κs = search needs
-
 put-stamp-requires : tie.Need-put-stamp-requires
 put-stamp-requires c κs = (few (c .before .before .before .before .before .before .before .before .before .before .before), omega arith)
 
@@ -40,15 +31,6 @@ put-byte-requires c κs =
       pairs-length (s .desks) (rowOf (s .r .stamp .row)),
     )
 
-enum-known-place-2 : tie.Need-enum-known-place-2
-enum-known-place-2 c = search needs
-
-put-number-requires : tie.Need-put-number-requires
-put-number-requires c κs = search needs
-
-same-length : tie.Need-same-length
-same-length c = search needs
-
 returns : tie.Need-returns
 returns c =
     let e = c .before .before in
@@ -58,26 +40,15 @@ returns c =
     rw (a .before .before .before .before .place .given .1)
     (then (then (a .put-three .ensures) (then (b .put-field .ensures) (d .put-stamp .ensures))) (e .put-byte .ensures))
 
-same-length-2 : tie.Need-same-length-2
-same-length-2 c = search needs
-
 returns-2 : tie.Need-returns-2
 returns-2 c =
     let a = c .before .before in
-    rw (a .before .before .before .place2 .given .1) (a .put-number .ensures (a .before .before .before .before .before .before .args .desks))
+    rw (a .before .before .before .place2 .given .1)
+    (a .put-number .ensures (a .before .before .before .before .before .before .args .desks))
 
 pub put-sent-spec : {M : Type 1} → statement M
 put-sent-spec =
     tie.close
     (tie.spec
-    enum-known-place
-    put-three-requires
-    put-field-requires
-    put-stamp-requires
-    put-byte-requires
-    enum-known-place-2
-    put-number-requires
-    same-length
-    returns
-    same-length-2
-    returns-2)
+    (λ c. search needs) (λ c κs. search needs) (λ c κs. search needs) put-stamp-requires put-byte-requires (λ c. search needs)
+    (λ c κs. search needs) (λ c. search needs) returns (λ c. search needs) returns-2)

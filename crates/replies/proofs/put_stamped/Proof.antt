@@ -15,20 +15,11 @@ few : (c : tie.Else1) → c .before .before .before .args .desks ≤ 8
 unfolding stampedSays
 few c = c .before .before .before .pre .0 (rw (stampedSays, eq-eqb _ _ (c .if1 .left)))
 
-put-number-requires : tie.Need-put-number-requires
-put-number-requires c κs = search needs
-
-same-length : tie.Need-same-length
-same-length c = search needs
-
 returns : tie.Need-returns
 unfolding stampedSays
 returns c =
     let t = c .before .before .before .before in
     rw (stampedSays, ne-eqb _ _ (t .if1 .taken)) (c .before .before .put-number .ensures (t .before .before .before .args .desks))
-
-put-three-requires : tie.Need-put-three-requires
-put-three-requires c κs = search needs
 
 put-stamp-requires : tie.Need-put-stamp-requires
 put-stamp-requires c κs = (few (c .before .before .before .before .before .before), omega arith)
@@ -46,9 +37,6 @@ put-byte-requires c κs =
       pairs-length (s .desks) (rowOf (s .r .stamp .row)),
     )
 
-same-length-2 : tie.Need-same-length-2
-same-length-2 c = search needs
-
 returns-2 : tie.Need-returns-2
 unfolding stampedSays
 returns-2 c =
@@ -62,11 +50,5 @@ pub put-stamped-spec : {M : Type 1} → statement M
 put-stamped-spec =
     tie.close
     (tie.spec
-    put-number-requires
-    same-length
-    returns
-    put-three-requires
-    put-stamp-requires
-    put-byte-requires
-    same-length-2
+    (λ c κs. search needs) (λ c. search needs) returns (λ c κs. search needs) put-stamp-requires put-byte-requires (λ c. search needs)
     returns-2)

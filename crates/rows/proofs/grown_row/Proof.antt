@@ -6,14 +6,10 @@ use borrow.Author.Needs.{needs}
 use Rattle.rows.proofs.grown_row.Statement.{statement}
 use Rattle.rows.proofs.grown_row.Tie as tie
 
-row-array-requires : tie.Need-row-array-requires
-row-array-requires c κs = search needs
-
-ticked-requires : tie.Need-ticked-requires
-ticked-requires c κs = search needs
-
 returns : tie.Need-returns
-returns c = let x = c .before .before .before in c .ticked .ensures ∙ rw (c .before .row-array .ensures) (grown-bytes (x .args .book .now) (x .args .j) (x .pre .at .eight))
+returns c =
+    let x = c .before .before .before in
+    c .ticked .ensures ∙ rw (c .before .row-array .ensures) (grown-bytes (x .args .book .now) (x .args .j) (x .pre .at .eight))
 
 pub grown-row-spec : {M : Type 1} → statement M
-grown-row-spec = tie.close (tie.spec row-array-requires ticked-requires returns)
+grown-row-spec = tie.close (tie.spec (λ c κs. search needs) (λ c κs. search needs) returns)

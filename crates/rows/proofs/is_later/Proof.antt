@@ -19,32 +19,11 @@ below x = (at (x .args .k) (omega arith), at (x .args .d) (omega arith), at (x .
     at : (i : ℕ) → i < 72 → OnRing x i
     at i l = phase-below (x .args .book .now) (x .pre .0 .1) i (x .args .k) l (omega arith)
 
-phase-at-requires : tie.Need-phase-at-requires
-phase-at-requires c κs = search needs
-
-phases-of-requires : tie.Need-phases-of-requires
-phases-of-requires c κs = search needs
-
-phase-at-requires-2 : tie.Need-phase-at-requires-2
-phase-at-requires-2 c κs = search needs
-
-phase-at-requires-3 : tie.Need-phase-at-requires-3
-phase-at-requires-3 c κs = search needs
-
 lag-requires : tie.Need-lag-requires
 lag-requires c κs = omega (arith, below (c .before .before .before .before .before))
 
 lag-requires-2 : tie.Need-lag-requires-2
 lag-requires-2 c κs = omega (arith, below (c .before .before .before .before .before .before))
-
-clock-at-requires : tie.Need-clock-at-requires
-clock-at-requires c κs = search needs
-
-clock-at-requires-2 : tie.Need-clock-at-requires-2
-clock-at-requires-2 c κs = search needs
-
-later-by-requires : tie.Need-later-by-requires
-later-by-requires c κs = search needs
 
 returns : tie.Need-returns
 returns c = cc
@@ -53,13 +32,5 @@ pub is-later-spec : {M : Type 1} → statement M
 is-later-spec =
     tie.close
     (tie.spec
-    phase-at-requires
-    phases-of-requires
-    phase-at-requires-2
-    phase-at-requires-3
-    lag-requires
-    lag-requires-2
-    clock-at-requires
-    clock-at-requires-2
-    later-by-requires
-    returns)
+    (λ c κs. search needs) (λ c κs. search needs) (λ c κs. search needs) (λ c κs. search needs) lag-requires lag-requires-2
+    (λ c κs. search needs) (λ c κs. search needs) (λ c κs. search needs) returns)

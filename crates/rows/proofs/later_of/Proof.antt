@@ -6,9 +6,6 @@ use borrow.Author.Needs.{needs}
 use Rattle.rows.proofs.later_of.Statement.{statement}
 use Rattle.rows.proofs.later_of.Tie as tie
 
-is-later-requires : tie.Need-is-later-requires
-is-later-requires c κs = search needs
-
 returns : tie.Need-returns
 returns c = (search needs, sym (pick-true _ _ _ (sym (c .before .is-later .ensures) ∙ c .if1 .taken)))
 
@@ -16,4 +13,4 @@ returns-2 : tie.Need-returns-2
 returns-2 c = (search needs, sym (pick-false _ _ _ (sym (c .before .is-later .ensures) ∙ c .if1 .left)))
 
 pub later-of-spec : {M : Type 1} → statement M
-later-of-spec = tie.close (tie.spec is-later-requires returns returns-2)
+later-of-spec = tie.close (tie.spec (λ c κs. search needs) returns returns-2)

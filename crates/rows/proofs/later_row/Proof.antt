@@ -23,38 +23,11 @@ abbrev μ-loop : tie.MeasureT-loop
 loop-holds : tie.Need-loop-holds Inv-loop μ-loop
 loop-holds c = (search needs, filled-none 16 _ _ (length-replicate {A = ℕ} 16 0))
 
-later-of-requires : tie.Need-later-of-requires Inv-loop μ-loop
-later-of-requires c κs = search needs
-
-phase-at-requires : tie.Need-phase-at-requires Inv-loop μ-loop
-phase-at-requires c κs = search needs
-
-mul-row : tie.Need-mul-row Inv-loop μ-loop
-mul-row c = omega arith
-
-array-write-row : tie.Need-array-write-row Inv-loop μ-loop
-array-write-row c = omega arith
-
-clock-at-requires : tie.Need-clock-at-requires Inv-loop μ-loop
-clock-at-requires c κs = search needs
-
-mul-row-2 : tie.Need-mul-row-2 Inv-loop μ-loop
-mul-row-2 c = omega arith
-
-add-row : tie.Need-add-row Inv-loop μ-loop
-add-row c = omega arith
-
-array-write-row-2 : tie.Need-array-write-row-2 Inv-loop μ-loop
-array-write-row-2 c = omega arith
-
-add-k : tie.Need-add-k Inv-loop μ-loop
-add-k c = omega arith
-
-loop-less : tie.Need-loop-less Inv-loop μ-loop
-loop-less c = omega arith
-
 loop-again : tie.Need-loop-again Inv-loop μ-loop
-loop-again c = let h = c .before .before .before .before .loop in let e = c .before .before .later-of .ensures .1 in (omega arith, filled-pair _ (h .k) (h .row) _ _ (h .inv .1) (omega arith) (c .before .phase-at .ensures ∙ ap (λ (q : Pair). q .phase) e) (c .clock-at .ensures ∙ ap (λ (q : Pair). q .clock) e))
+loop-again c =
+    let h = c .before .before .before .before .loop in
+    let e = c .before .before .later-of .ensures .1 in
+    (omega arith, filled-pair _ (h .k) (h .row) _ _ (h .inv .1) (omega arith) (c .before .phase-at .ensures ∙ ap (λ (q : Pair). q .phase) e) (c .clock-at .ensures ∙ ap (λ (q : Pair). q .clock) e))
 
 returns : tie.Need-returns Inv-loop μ-loop
 unfolding rowBytes
@@ -64,18 +37,5 @@ pub later-row-spec : {M : Type 1} → statement M
 later-row-spec =
     tie.close
     (tie.spec
-    Inv-loop
-    μ-loop
-    loop-holds
-    later-of-requires
-    phase-at-requires
-    mul-row
-    array-write-row
-    clock-at-requires
-    mul-row-2
-    add-row
-    array-write-row-2
-    add-k
-    loop-less
-    loop-again
-    returns)
+    Inv-loop μ-loop loop-holds (λ c κs. search needs) (λ c κs. search needs) (λ c. omega arith) (λ c. omega arith) (λ c κs. search needs)
+    (λ c. omega arith) (λ c. omega arith) (λ c. omega arith) (λ c. omega arith) (λ c. omega arith) loop-again returns)

@@ -6,17 +6,13 @@ use borrow.Author.Needs.{needs}
 use Rattle.rows.proofs.merged_row.Statement.{statement}
 use Rattle.rows.proofs.merged_row.Tie as tie
 
-add-later-row : tie.Need-add-later-row
-add-later-row c = search needs
-
-later-row-requires : tie.Need-later-row-requires
-later-row-requires c κs = search needs
-
-ticked-requires : tie.Need-ticked-requires
-ticked-requires c κs = search needs
-
 returns : tie.Need-returns
-returns c = let x = c .before .before .before in c .ticked .ensures ∙ rw (c .before .later-row .ensures) (merged-bytes (x .args .book .now) (x .args .j) (x .pre .0 .at .eight) (x .pre .0 .at .whole) (x .args .place) (x .pre .1))
+returns c =
+    let x = c .before .before .before in
+    c .ticked .ensures
+    ∙ rw (c .before .later-row .ensures)
+    (merged-bytes (x .args .book .now) (x .args .j) (x .pre .0 .at .eight) (x .pre .0 .at .whole) (x .args .place) (x .pre .1))
 
 pub merged-row-spec : {M : Type 1} → statement M
-merged-row-spec = tie.close (tie.spec add-later-row later-row-requires ticked-requires returns)
+merged-row-spec =
+    tie.close (tie.spec (λ c. search needs) (λ c κs. search needs) (λ c κs. search needs) returns)

@@ -8,33 +8,17 @@ use borrow.Author.Needs.{needs}
 use Rattle.rows.proofs.turned_row.Statement.{statement}
 use Rattle.rows.proofs.turned_row.Tie as tie
 
-row-array-requires : tie.Need-row-array-requires
-row-array-requires c κs = search needs
-
-phase-at-requires : tie.Need-phase-at-requires
-phase-at-requires c κs = search needs
-
-phases-of-requires : tie.Need-phases-of-requires
-phases-of-requires c κs = search needs
-
 next-requires : tie.Need-next-requires
-next-requires c κs = let x = c .before .before .before .before in omega (arith, phase-below (x .args .book .now) (x .pre .whole) (x .args .j) (x .args .j) (omega arith) (omega arith))
-
-with-pair-requires : tie.Need-with-pair-requires
-with-pair-requires c κs = search needs
+next-requires c κs =
+    let x = c .before .before .before .before in
+    omega (arith, phase-below (x .args .book .now) (x .pre .whole) (x .args .j) (x .args .j) (omega arith) (omega arith))
 
 returns : tie.Need-returns
 returns c = let x = c .before .before .before .before .before .before in c .with-pair .ensures
-    ∙ rw (c .before .before .before .before .row-array .ensures, c .before .next .ensures, c .before .before .phases-of .ensures, c .before .before .before .phase-at .ensures)
+    ∙ rw
+    (c .before .before .before .before .row-array .ensures, c .before .next .ensures, c .before .before .phases-of .ensures, c .before .before .before .phase-at .ensures)
     (turned-bytes (x .args .book .now) (x .args .j) (x .pre .eight))
 
 pub turned-row-spec : {M : Type 1} → statement M
 turned-row-spec =
-    tie.close
-    (tie.spec
-    row-array-requires
-    phase-at-requires
-    phases-of-requires
-    next-requires
-    with-pair-requires
-    returns)
+    tie.close (tie.spec (λ c κs. search needs) (λ c κs. search needs) (λ c κs. search needs) next-requires (λ c κs. search needs) returns)

@@ -19,25 +19,10 @@ abbrev μ-loop : tie.MeasureT-loop
 loop-holds : tie.Need-loop-holds Inv-loop μ-loop
 loop-holds c = (omega arith, all-none _)
 
-mul-is-number : tie.Need-mul-is-number Inv-loop μ-loop
-mul-is-number c = omega arith
-
-add-is-number : tie.Need-add-is-number Inv-loop μ-loop
-add-is-number c = omega arith
-
-is-number-requires : tie.Need-is-number-requires Inv-loop μ-loop
-is-number-requires c κs = omega arith
-
 returns : tie.Need-returns Inv-loop μ-loop
 returns c =
     let h = c .before .before .before .loop in
     sym (all-not _ _ (h .i) (omega arith) (sym (c .before .is-number .ensures) ∙ not-true _ (c .if1 .taken)))
-
-add-i : tie.Need-add-i Inv-loop μ-loop
-add-i c = omega arith
-
-loop-less : tie.Need-loop-less Inv-loop μ-loop
-loop-less c = omega arith
 
 loop-again : tie.Need-loop-again Inv-loop μ-loop
 loop-again c =
@@ -53,14 +38,5 @@ pub are-numbers-spec : {M : Type 1} → statement M
 are-numbers-spec =
     tie.close
     (tie.spec
-    Inv-loop
-    μ-loop
-    loop-holds
-    mul-is-number
-    add-is-number
-    is-number-requires
-    returns
-    add-i
-    loop-less
-    loop-again
-    returns-2)
+    Inv-loop μ-loop loop-holds (λ c. omega arith) (λ c. omega arith) (λ c κs. omega arith) returns (λ c. omega arith) (λ c. omega arith)
+    loop-again returns-2)

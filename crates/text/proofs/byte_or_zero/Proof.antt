@@ -8,11 +8,5 @@ use Rattle.text.proofs.byte_or_zero.Tie as tie
 returns : tie.Need-returns
 returns c = sym (List·getD-eq-default (c .before .args .s .now) 0 (c .if1 .taken))
 
-shared-slice-read-result : tie.Need-shared-slice-read-result
-shared-slice-read-result c = search needs
-
-returns-2 : tie.Need-returns-2
-returns-2 c = search needs
-
 pub byte-or-zero-spec : {M : Type 1} → statement M
-byte-or-zero-spec = tie.close (tie.spec returns shared-slice-read-result returns-2)
+byte-or-zero-spec = tie.close (tie.spec returns (λ c. search needs) (λ c. search needs))

@@ -19,19 +19,10 @@ loop-holds : tie.Need-loop-holds Inv-loop μ-loop
 unfolding flat
 loop-holds c = (omega arith, omega arith, rw (part-none (c .args .from) (c .args .s .now)))
 
-shared-slice-read-if1 : tie.Need-shared-slice-read-if1 Inv-loop μ-loop
-shared-slice-read-if1 c = omega arith
-
 returns : tie.Need-returns Inv-loop μ-loop
 returns c =
     let h = c .before .before .before .loop in
     record { from = omega arith; within = omega arith; plain = h .inv .2; newline = λ _. c .if1 .taken }
-
-add-i : tie.Need-add-i Inv-loop μ-loop
-add-i c = omega arith
-
-loop-less : tie.Need-loop-less Inv-loop μ-loop
-loop-less c = omega arith
 
 loop-again : tie.Need-loop-again Inv-loop μ-loop
 loop-again c =
@@ -49,14 +40,4 @@ returns-2 c =
 
 pub line-end-spec : {M : Type 1} → statement M
 line-end-spec =
-    tie.close
-    (tie.spec
-    Inv-loop
-    μ-loop
-    loop-holds
-    shared-slice-read-if1
-    returns
-    add-i
-    loop-less
-    loop-again
-    returns-2)
+    tie.close (tie.spec Inv-loop μ-loop loop-holds (λ c. omega arith) returns (λ c. omega arith) (λ c. omega arith) loop-again returns-2)

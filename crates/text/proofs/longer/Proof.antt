@@ -31,20 +31,8 @@ loop-holds c =
     let p = c .before .args .p in
     (size (c .before), omega arith, omega arith, omega arith, sym (append-nil (take (p .count) (p .line))))
 
-shared-slice-read-line : tie.Need-shared-slice-read-line Inv-loop μ-loop
-shared-slice-read-line c = omega arith
-
 array-write-line : tie.Need-array-write-line Inv-loop μ-loop
 array-write-line c = omega (arith, leb-true)
-
-add-n : tie.Need-add-n Inv-loop μ-loop
-add-n c = omega arith
-
-add-i : tie.Need-add-i Inv-loop μ-loop
-add-i c = omega arith
-
-loop-less : tie.Need-loop-less Inv-loop μ-loop
-loop-less c = omega arith
 
 loop-again : tie.Need-loop-again Inv-loop μ-loop
 loop-again c =
@@ -55,7 +43,8 @@ loop-again c =
       omega (arith, leb-true),
       omega arith,
       omega arith,
-      rw (add-one (h .n), take-suc-set (h .line) (h .n) x (omega (arith, leb-true)), h .inv .4, add-one, take-suc (a .more .now) (h .i) 0 (omega arith))
+      rw
+          (add-one (h .n), take-suc-set (h .line) (h .n) x (omega (arith, leb-true)), h .inv .4, add-one, take-suc (a .more .now) (h .i) 0 (omega arith))
           (append-assoc (lineOf (a .p)) (take (h .i) (a .more .now)) (x ∷ [])),
     )
 
@@ -73,21 +62,13 @@ returns-2 c =
     let e : h .i ≡ length (a .more .now) = omega arith in (
       omega arith,
       h .inv .4 ∙ ap (λ (l : List ℕ). lineOf (a .p) ++ l) (take-all (h .i) (a .more .now) (omega arith))
-          ∙ sym (take-all most (lineOf (a .p) ++ a .more .now) (simp length-append (omega (arith, held-length (c .before .before .before))))),
+          ∙ sym
+          (take-all most (lineOf (a .p) ++ a .more .now) (simp length-append (omega (arith, held-length (c .before .before .before))))),
     )
 
 pub longer-spec : {M : Type 1} → statement M
 longer-spec =
     tie.close
     (tie.spec
-    Inv-loop
-    μ-loop
-    loop-holds
-    shared-slice-read-line
-    array-write-line
-    add-n
-    add-i
-    loop-less
-    loop-again
-    returns
-    returns-2)
+    Inv-loop μ-loop loop-holds (λ c. omega arith) array-write-line (λ c. omega arith) (λ c. omega arith) (λ c. omega arith) loop-again
+    returns returns-2)

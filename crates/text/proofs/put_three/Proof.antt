@@ -8,35 +8,11 @@ use borrow.Author.Needs.{needs}
 use Rattle.text.proofs.put_three.Statement.{statement}
 use Rattle.text.proofs.put_three.Tie as tie
 
-add-out : tie.Need-add-out
-add-out c = search needs
-
-slice-write-out : tie.Need-slice-write-out
-slice-write-out c = search needs
-
-add-out-2 : tie.Need-add-out-2
-add-out-2 c = search needs
-
-add-out-3 : tie.Need-add-out-3
-add-out-3 c = search needs
-
 slice-write-out-2 : tie.Need-slice-write-out-2
 slice-write-out-2 c = simp length-set (omega arith)
 
-add-out-4 : tie.Need-add-out-4
-add-out-4 c = search needs
-
-add-out-5 : tie.Need-add-out-5
-add-out-5 c = search needs
-
 slice-write-out-3 : tie.Need-slice-write-out-3
 slice-write-out-3 c = simp length-set (omega arith)
-
-add-result : tie.Need-add-result
-add-result c = search needs
-
-same-length : tie.Need-same-length
-same-length c = search needs
 
 returns : tie.Need-returns
 returns c =
@@ -51,14 +27,5 @@ pub put-three-spec : {M : Type 1} → statement M
 put-three-spec =
     tie.close
     (tie.spec
-    add-out
-    slice-write-out
-    add-out-2
-    add-out-3
-    slice-write-out-2
-    add-out-4
-    add-out-5
-    slice-write-out-3
-    add-result
-    same-length
-    returns)
+    (λ c. search needs) (λ c. search needs) (λ c. search needs) (λ c. search needs) slice-write-out-2 (λ c. search needs)
+    (λ c. search needs) slice-write-out-3 (λ c. search needs) (λ c. search needs) returns)
