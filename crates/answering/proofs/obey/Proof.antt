@@ -28,75 +28,65 @@ put-stamped-requires-3 c κs =
 
 returns : tie.Need-returns
 returns c =
-    let a = c .before .before in
-    let k = a .before .before .before in
-    printed-any _ _ _ _ _ (k .before .before .before .before .c .given .1) _ _ _ _ (k .start .ensures .0)
-    (k .start .ensures .1) (a .put-number .ensures)
+    let k = c .before .before .before .before .before in
+    printed-any _ _ _ _ _ (k .before .before .before .before .c .given .1) _ _ _ _ (k .start .ensures .0) (k .start .ensures .1)
+    (c .before .before .put-number .ensures)
 
 returns-2 : tie.Need-returns-2
 returns-2 c =
-    let a = c .before .before in
-    let k = a .before .before .before in
-    printed _ _ _ _ _ (k .before .before .before .before .c2 .given .1) _ _ _ _ (k .local .ensures .0)
-    (k .local .ensures .1 .1) _ (k .before .before .before .before .before .before .byte-or-zero .ensures) (a .put-stamped .ensures)
+    let k = c .before .before .before .before .before in
+    printed _ _ _ _ _ (k .before .before .before .before .c2 .given .1) _ _ _ _ (k .local .ensures .0) (k .local .ensures .1 .1)
+    _ (k .before .before .before .before .before .before .byte-or-zero .ensures) (c .before .before .put-stamped .ensures)
 
 returns-3 : tie.Need-returns-3
 returns-3 c =
-    let a = c .before .before in
-    let k = a .before .before .before in
-    printed _ _ _ _ _ (k .before .before .before .before .c3 .given .1) _ _ _ _ (k .send .ensures .0)
-    (k .send .ensures .1 .1) _ (k .before .before .before .before .before .before .byte-or-zero .ensures) (a .put-sent .ensures)
+    let k = c .before .before .before .before .before in
+    printed _ _ _ _ _ (k .before .before .before .before .c3 .given .1) _ _ _ _ (k .send .ensures .0) (k .send .ensures .1 .1)
+    _ (k .before .before .before .before .before .before .byte-or-zero .ensures) (c .before .before .put-sent .ensures)
 
 returns-4 : tie.Need-returns-4
 returns-4 c =
-    let a = c .before .before in
-    let k = a .before .before .before in
-    printed _ _ _ _ _ (k .before .before .before .before .c4 .given .1) _ _ _ _ (k .receive .ensures .0)
-    (k .receive .ensures .1 .1) _ (k .before .before .before .before .before .before .byte-or-zero .ensures) (a .put-stamped2 .ensures)
+    let k = c .before .before .before .before .before in
+    printed _ _ _ _ _ (k .before .before .before .before .c4 .given .1) _ _ _ _ (k .receive .ensures .0) (k .receive .ensures .1 .1)
+    _ (k .before .before .before .before .before .before .byte-or-zero .ensures) (c .before .before .put-stamped2 .ensures)
 
 returns-5 : tie.Need-returns-5
 returns-5 c =
-    let a = c .before .before in
-    let k = a .before .before .before in
-    printed _ _ _ _ _ (k .before .before .before .before .c5 .given .1) _ _ _ _ (k .reset .ensures .0)
-    (k .reset .ensures .1 .1) _ (k .before .before .before .before .before .before .byte-or-zero .ensures) (a .put-stamped3 .ensures)
+    let k = c .before .before .before .before .before in
+    printed _ _ _ _ _ (k .before .before .before .before .c5 .given .1) _ _ _ _ (k .reset .ensures .0) (k .reset .ensures .1 .1)
+    _ (k .before .before .before .before .before .before .byte-or-zero .ensures) (c .before .before .put-stamped3 .ensures)
 
 returns-6 : tie.Need-returns-6
 returns-6 c =
-    let a = c .before .before in
-    let k = a .before .before .before in
-    printed-any _ _ _ _ _ (k .before .before .before .before .c6 .given .1) _ _ _ _ (k .keep .ensures .0)
-    (k .keep .ensures .1) (a .put-kept .ensures)
+    let k = c .before .before .before .before .before in
+    printed-any _ _ _ _ _ (k .before .before .before .before .c6 .given .1) _ _ _ _ (k .keep .ensures .0) (k .keep .ensures .1)
+    (c .before .before .put-kept .ensures)
 
 returns-7 : tie.Need-returns-7
 returns-7 c =
-    let a = c .before .before in
-    let k = a .before .before .before in
-    printed-any _ _ _ _ _ (k .before .before .before .before .c7 .given .1) _ _ _ _ (k .drop .ensures .0)
-    (k .drop .ensures .1) (a .put-number2 .ensures)
+    let k = c .before .before .before .before .before in
+    printed-any _ _ _ _ _ (k .before .before .before .before .c7 .given .1) _ _ _ _ (k .drop .ensures .0) (k .drop .ensures .1)
+    (c .before .before .put-number2 .ensures)
 
 returns-8 : tie.Need-returns-8
 returns-8 c =
-    let a = c .before .before in
-    let k = a .before .before .before in
-    printed-any _ _ _ _ _ (k .before .before .before .before .c8 .given .1) _ _ _ _ (k .discard .ensures .0)
-    (k .discard .ensures .1) (a .put-number3 .ensures)
+    let k = c .before .before .before .before .before in
+    printed-any _ _ _ _ _ (k .before .before .before .before .c8 .given .1) _ _ _ _ (k .discard .ensures .0) (k .discard .ensures .1)
+    (c .before .before .put-number3 .ensures)
 
 returns-9 : tie.Need-returns-9
 unfolding done
 returns-9 c =
-    let a = c .before .before in
-    let k = a .before in
-    printed-any _ _ _ _ _ (k .before .before .before .before .c9 .given .1) _ _ _ _ (k .before2 .ensures)
-    (same-book _ _ refl) (a .put-told .ensures)
+    let k = c .before .before .before in
+    printed-any _ _ _ _ _ (k .before .before .before .before .c9 .given .1) _ _ _ _ (k .before2 .ensures) (same-book _ _ refl)
+    (c .before .before .put-told .ensures)
 
 returns-10 : tie.Need-returns-10
 unfolding done
 returns-10 c =
-    let a = c .before .before in
-    let k = a .before in
-    printed-any _ _ _ _ _ (k .before .before .before .before .c10 .given .1) _ _ _ _ (k .compare .ensures)
-    (same-book _ _ refl) (a .put-compared .ensures)
+    let k = c .before .before .before in
+    printed-any _ _ _ _ _ (k .before .before .before .before .c10 .given .1) _ _ _ _ (k .compare .ensures) (same-book _ _ refl)
+    (c .before .before .put-compared .ensures)
 
 returns-11 : tie.Need-returns-11
 returns-11 c =

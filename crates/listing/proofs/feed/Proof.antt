@@ -18,27 +18,33 @@ use Rattle.listing.proofs.feed.Tie as tie
 size : (c : tie.Else1) → length (c .before .longer .result .line) ≡ 65
 size c = search needs
 
-line-end-requires : tie.Need-line-end-requires
-line-end-requires c κs = search needs
+-- the places that lie behind the feed of the rest
+abbrev answered : tie.After-feed-lines → tie.After-answer
+answered k = k .before .before .before .before .before .before .before .before
+
+abbrev ended : tie.After-feed-lines → tie.Else1
+ended k = answered k .before .before .before .before .before
+
+abbrev found : tie.After-feed-lines → tie.After-line-end
+found k = ended k .before .before .before
+
+abbrev entry : tie.After-feed-lines → tie.Start
+entry k = found k .before .before .before .before
 
 -- what is taken in lies within the piece
 taken
-    : (c : tie.After-struct-known)
-    → c .before .before .before .before .before .before .before .before .before .before .before .before .before .before .before .before .before .before .before .before .before .before .line-end .result + 1 + c .before .before .before .before .before .before .feed-lines .result .used ≤ length (c .before .before .before .before .before .before .before .before .before .before .before .before .before .before .before .before .before .before .before .before .before .before .before .before .before .before .args .piece .now)
-taken c =
-    let e = c .before .before .before .before .before .before .before .before .before .before .before .before .before .before .before .before .before .before .before .before .before .before .line-end in
+    : (k : tie.After-feed-lines)
+    → found k .line-end .result + 1 + k .feed-lines .result .used ≤ length (entry k .args .piece .now)
+taken k =
     omega (
       arith,
-      e .ensures .within,
-      c .before .before .before .before .before .before .before .before .before .before .before .before .before .before .before .before .before .before .before .if1 .left,
-      simp (length-take, length-drop) at (c .before .before .before .before .before .before .feed-lines .ensures .1 .within),
+      found k .line-end .ensures .within,
+      ended k .if1 .left,
+      simp (length-take, length-drop) at (k .feed-lines .ensures .1 .within),
     )
 
 slice-aggregate-longer : tie.Need-slice-aggregate-longer
 slice-aggregate-longer c = sym (length-take-le _ _ (omega arith))
-
-longer-requires : tie.Need-longer-requires
-longer-requires c κs = search needs
 
 returns : tie.Need-returns
 returns c =
@@ -66,55 +72,32 @@ array-share-prefix-line c = omega (arith, size (c .before .before .before))
 slice-aggregate-answer : tie.Need-slice-aggregate-answer
 slice-aggregate-answer c = sym (length-take-le _ _ (omega (arith, size (c .before .before .before .before))))
 
-answer-requires : tie.Need-answer-requires
-answer-requires c κs = search needs
-
-add-rest : tie.Need-add-rest
-add-rest c = search needs
-
-sub-feed-lines : tie.Need-sub-feed-lines
-sub-feed-lines c = search needs
-
-part-feed-lines-start : tie.Need-part-feed-lines-start
-part-feed-lines-start c = search needs
-
-part-feed-lines-end : tie.Need-part-feed-lines-end
-part-feed-lines-end c = search needs
-
-feed-lines-requires : tie.Need-feed-lines-requires
-feed-lines-requires c κs = search needs
-
 add-t15 : tie.Need-add-t15
-add-t15 c = omega (arith, c .before .before .before .before .before .before .before .before .before .before .before .before .before .before .before .before .before .before .before .before .before .before .before .before .before .before .pre, c .before .before .before .before .before .before .before .before .before .before .before .before .before .before .before .before .before .before .before .before .before .before .before .before .before .before .good, taken c)
-
-same-length : tie.Need-same-length
-same-length c = search needs
-
-same-length-2 : tie.Need-same-length-2
-same-length-2 c = search needs
+add-t15 c = let k = c .before .before .before .before .before .before in omega (arith, entry k .pre, entry k .good, taken k)
 
 returns-2 : tie.Need-returns-2
 returns-2 c =
-    let a = c .before .before .before .before .before .before .before .before .before .before .before .before .before .before .before .before .before .before .before .before .before .before .before .before .before .before .args in
+    let k = c .before .before .before .before .before .before in
+    let a = entry k .args in
     let b = a .book .now in
     let xs = a .piece .now in
     let s = held b (a .p) in
-    let e = c .before .before .before .before .before .before .before .before .before .before .before .before .before .before .before .before .before .before .before .before .before .before .line-end in
-    let f = c .before .before .before .before .before .before .feed-lines in
+    let e = found k .line-end in
+    let f = k .feed-lines in
     let u = f .result .used in
-    let told = c .before .before .before .before .before .before .before .before .before .before .before .before .before .before .answer .ensures in
-    let l : e .result < length xs = omega (arith, e .ensures .within, c .before .before .before .before .before .before .before .before .before .before .before .before .before .before .before .before .before .before .before .if1 .left) in
+    let told = answered k .answer .ensures in
+    let l : e .result < length xs = omega (arith, e .ensures .within, ended k .if1 .left) in
     let whole = lineOf (a .p) ++ take (e .result) xs in
-    let line = c .before .before .before .before .before .before .before .before .before .before .before .before .before .before .before .before .before .before .before .before .longer .ensures .1 in
+    let line = ended k .before .longer .ensures .1 in
     let w : take (length xs - (e .result + 1)) (drop (e .result + 1) xs) ≡ drop (e .result + 1) xs =
     take-all (length xs - (e .result + 1)) (drop (e .result + 1) xs) (simp length-drop (omega arith)) in
-    let text : lineText b (lineOf (c .before .before .before .before .before .before .before .before .before .before .before .before .before .before .before .before .before .before .before .before .longer .result)) ≡ lineText b whole = ap (lineText b) line ∙ blind .says b whole in
+    let text : lineText b (lineOf (ended k .before .longer .result)) ≡ lineText b whole = ap (lineText b) line ∙ blind .says b whole in
     let book : _ ≡ lineBook b whole = told .1 ∙ ap (lineBook b) line ∙ blind .leaves b whole in (
       rw (first-text answering s xs (e .result) (e .ensures) l u)
           (then (rw text at (told .0)) (rw (book, w) at (f .ensures .0))),
       (
         record {
-          within = taken c;
+          within = taken k;
           few = f .ensures .1 .few;
           left = rw (first-after answering s xs (e .result) (e .ensures) l u) (rw (book, w) at (f .ensures .1 .left));
         },
@@ -126,19 +109,6 @@ pub feed-spec : {M : Type 1} → statement M
 feed-spec =
     tie.close
     (tie.spec
-    line-end-requires
-    slice-aggregate-longer
-    longer-requires
-    returns
-    array-share-prefix-line
-    slice-aggregate-answer
-    answer-requires
-    add-rest
-    sub-feed-lines
-    part-feed-lines-start
-    part-feed-lines-end
-    feed-lines-requires
-    add-t15
-    same-length
-    same-length-2
-    returns-2)
+    (λ c κs. search needs) slice-aggregate-longer (λ c κs. search needs) returns array-share-prefix-line slice-aggregate-answer
+    (λ c κs. search needs) (λ c. search needs) (λ c. search needs) (λ c. search needs) (λ c. search needs)
+    (λ c κs. search needs) add-t15 (λ c. search needs) (λ c. search needs) returns-2)

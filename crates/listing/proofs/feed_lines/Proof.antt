@@ -1,4 +1,5 @@
--- `listing::feed_lines` meets its contract. The invariant: the lines before `from` are answered, and `stop` ends the one that begins there. Assumes nothing.
+-- `listing::feed_lines` meets its contract. The invariant: the lines before `from` are answered, and `stop` ends the one that
+-- begins there. Assumes nothing.
 use Rattle.text.specs.Put.{Wrote}
 use Rattle.text.specs.Stream.{Ends, start, part, most, textOf, after}
 use Rattle.text.proofs.Writing.{none, then, wrote-length}
@@ -28,9 +29,6 @@ abbrev μ-loop : tie.MeasureT-loop
 inside : (c : tie.At-loop Inv-loop μ-loop) → c .loop .end ≤ length (c .loop .out)
 inside c = omega (arith, c .loop .inv .2 .ends, c .loop .inv .2 .fits, wrote-length (c .loop .inv .2))
 
-line-end-requires : tie.Need-line-end-requires Inv-loop μ-loop
-line-end-requires c κs = omega arith
-
 loop-holds : tie.Need-loop-holds Inv-loop μ-loop
 unfolding textOf after
 loop-holds c =
@@ -42,29 +40,15 @@ sub-if1 c = omega (arith, inside (c .before))
 sub-answer : tie.Need-sub-answer Inv-loop μ-loop
 sub-answer c = omega (arith, c .before .before .before .before .loop .inv .1 .from)
 
-part-answer-start : tie.Need-part-answer-start Inv-loop μ-loop
-part-answer-start c = omega arith
-
-part-answer-end : tie.Need-part-answer-end Inv-loop μ-loop
-part-answer-end c = omega arith
-
 answer-requires : tie.Need-answer-requires Inv-loop μ-loop
 answer-requires c κs = omega (arith, leb-true)
-
-add-from : tie.Need-add-from Inv-loop μ-loop
-add-from c = omega arith
-
-line-end-requires-2 : tie.Need-line-end-requires-2 Inv-loop μ-loop
-line-end-requires-2 c κs = omega arith
-
-loop-less : tie.Need-loop-less Inv-loop μ-loop
-loop-less c = omega arith
 
 loop-again : tie.Need-loop-again Inv-loop μ-loop
 loop-again c =
     let k = c .before .before .before .before .before in
-    let h = c .before .before .before .before .before .before .before .before .before .before .before .loop in
-    let a = c .before .before .before .before .before .before .before .before .before .before .before .before .before .before .before .before .args in
+    let at = k .before .before .before .before .before .before in
+    let h = at .loop in
+    let a = at .before .before .before .before .before .args in
     let s = start (a .book .now) in
     let l : h .stop < length (a .piece .now) = omega arith in (
       k .answer .kept .0 ∙ h .inv .0,
@@ -74,21 +58,6 @@ loop-again c =
       more-after answering s (h .book) (a .piece .now) (h .from) (h .stop) (h .inv .1) (h .inv .3) l
           ∙ ap start (sym (k .answer .ensures .1)),
     )
-
-fresh-requires : tie.Need-fresh-requires Inv-loop μ-loop
-fresh-requires c κs = tt
-
-sub-longer : tie.Need-sub-longer Inv-loop μ-loop
-sub-longer c = omega arith
-
-part-longer-start : tie.Need-part-longer-start Inv-loop μ-loop
-part-longer-start c = omega arith
-
-part-longer-end : tie.Need-part-longer-end Inv-loop μ-loop
-part-longer-end c = omega arith
-
-longer-requires : tie.Need-longer-requires Inv-loop μ-loop
-longer-requires c κs = omega arith
 
 same-length : tie.Need-same-length Inv-loop μ-loop
 same-length c = c .before .before .before .before .loop .inv .0
@@ -118,24 +87,6 @@ pub feed-lines-spec : {M : Type 1} → statement M
 feed-lines-spec =
     tie.close
     (tie.spec
-    Inv-loop
-    μ-loop
-    line-end-requires
-    loop-holds
-    sub-if1
-    sub-answer
-    part-answer-start
-    part-answer-end
-    answer-requires
-    add-from
-    line-end-requires-2
-    loop-less
-    loop-again
-    fresh-requires
-    sub-longer
-    part-longer-start
-    part-longer-end
-    longer-requires
-    same-length
-    same-length-2
-    returns)
+    Inv-loop μ-loop (λ c κs. omega arith) loop-holds sub-if1 sub-answer (λ c. omega arith) (λ c. omega arith) answer-requires
+    (λ c. omega arith) (λ c κs. omega arith) (λ c. omega arith) loop-again (λ c κs. tt) (λ c. omega arith) (λ c. omega arith)
+    (λ c. omega arith) (λ c κs. omega arith) same-length same-length-2 returns)

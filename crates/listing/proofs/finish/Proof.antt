@@ -27,15 +27,6 @@ array-share-prefix-line c = omega (arith, size (c .before .before .before .befor
 slice-aggregate-answer : tie.Need-slice-aggregate-answer
 slice-aggregate-answer c = sym (length-take-le _ _ (omega (arith, size (c .before .before .before .before .before .before .before))))
 
-answer-requires : tie.Need-answer-requires
-answer-requires c κs = search needs
-
-same-length : tie.Need-same-length
-same-length c = search needs
-
-same-length-2 : tie.Need-same-length-2
-same-length-2 c = search needs
-
 returns-2 : tie.Need-returns-2
 unfolding lastText lastBook
 returns-2 c =
@@ -50,10 +41,5 @@ pub finish-spec : {M : Type 1} → statement M
 finish-spec =
     tie.close
     (tie.spec
-    returns
-    array-share-prefix-line
-    slice-aggregate-answer
-    answer-requires
-    same-length
-    same-length-2
+    returns array-share-prefix-line slice-aggregate-answer (λ c κs. search needs) (λ c. search needs) (λ c. search needs)
     returns-2)
