@@ -1,8 +1,11 @@
 -- What a line of the listing prints on a book, and the book that it leaves.
 -- Assumes nothing.
---   answerOf b o, bookOf b o   what a call is answered, and the book after it; for no call BadLine, and the same book
---   commandText b c, commandBook b c   what a command prints on the book b, and the book after it
---   lineText b l, lineBook b l   the same of a line of bytes
+--   answerOf b o     what a call is answered on the book b; for no call BadLine
+--   bookOf b o       the book after a call; for no call the same book
+--   commandText b c  what a command prints on the book b
+--   commandBook b c  the book after a command
+--   lineText b l     what a line of bytes prints on the book b
+--   lineBook b l     the book after a line
 --   answering        both, as a stream of lines has them
 use Prim.Native.Nat.{ℕ}
 use mathlib.Core.List.{List}
