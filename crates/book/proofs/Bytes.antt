@@ -13,7 +13,8 @@ use Rattle.tools.proofs.Lists.{length-tab, tab-at}
 use Rattle.rules.specs.declared.Setup.{Setup}
 use Rattle.rules.specs.Replies.{rowByte}
 use Rattle.rules.proofs.RowBytes.{row-phase, row-clock, row-alike}
-use Rattle.book.specs.Layout.{Record, Fields, spot, headByte, mark0, mark1, markedByte, recordByte, byteOf, layout, setupOf, rowAt, fields, Holds}
+use Rattle.book.specs.Layout.{Record, Fields, spot, headByte, mark0, mark1, markedByte, recordByte, byteOf, layout, setupOf, rowAt}
+use Rattle.book.specs.Layout.{fields, Holds}
 
 -- the row that stands in the bytes
 pub row-at : (b : List ℕ) (k c : ℕ) → rowByte (rowAt b k) c ≡ byte b (spot k (4 + c))

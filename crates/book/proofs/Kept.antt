@@ -20,7 +20,8 @@ use Rattle.rules.specs.Setups.{permits}
 use Rattle.rules.specs.Model.{Row, Seat, Held, Tables, rowIn, zeros}
 use Rattle.rules.specs.Fits.{phases, PairFits, RowFits, MailFits, SlotFits, Fits}
 use Rattle.book.specs.Layout.{Record, Fields, fields, setupOf, rowAt, spot, mark0, mark1, headByte, markedByte, Holds}
-use Rattle.book.specs.Sound.{pairOk, columnOk, rowOk, columnZero, rowZero, seatRest, seatNear, seatOk, mailOk, slotOk, recordOk, spareZero, headOk, recordSound, sound}
+use Rattle.book.specs.Sound.{pairOk, columnOk, rowOk, columnZero, rowZero, seatRest, seatNear, seatOk, mailOk, slotOk, recordOk}
+use Rattle.book.specs.Sound.{spareZero, headOk, recordSound, sound}
 use Rattle.book.specs.Codec.{tagBy, tagTo, writeMail, writeSlot, recordOf, write}
 use Rattle.book.proofs.Bytes.{setup-is, tagA-is, tagB-is, pair-is}
 use Rattle.book.proofs.Codec.{record-seat, record-mail, record-slot, by-kind}

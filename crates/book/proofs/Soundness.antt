@@ -20,7 +20,8 @@ use Rattle.rules.specs.Model.{Held, zeros, idle}
 use Rattle.rules.specs.Fits.{phases, PairFits, RowFits, MailFits, SlotFits, Fits}
 use Rattle.rules.proofs.Setups.{permitted}
 use Rattle.book.specs.Layout.{Fields, fields, setupOf, spot, mark0, mark1, headByte, Holds}
-use Rattle.book.specs.Sound.{pairOk, columnOk, rowOk, columnZero, rowZero, seatRest, seatNear, seatOk, mailOk, slotOk, recordOk, spareZero, headOk, recordSound, sound}
+use Rattle.book.specs.Sound.{pairOk, columnOk, rowOk, columnZero, rowZero, seatRest, seatNear, seatOk, mailOk, slotOk, recordOk}
+use Rattle.book.specs.Sound.{spareZero, headOk, recordSound, sound}
 use Rattle.book.specs.Codec.{readRow, readSeat, readHeld, read}
 use Rattle.book.proofs.Bytes.{record-bytes, row-at}
 

@@ -115,8 +115,10 @@ own v vs ns e s = rw (choose, e, is-shaped (v .word) ns s, numbers-back (v .word
 other : (v : Verb) (vs : List Verb) (l : List ℕ) → opens l (v .word) ≡ false → choose (v ∷ vs) l ≡ choose vs l
 unfolding choose shaped
 other v vs l h =
-    rw
-    (choose, not-each (eqb (length l) (length (v .word) + 4 * v .count) ∷ opens l (v .word) ∷ allBelow (v .count) (λ i. isNumber l (length (v .word) + 4 * i)) ∷ []) 1 h)
+    rw (
+      choose,
+      not-each (eqb (length l) (length (v .word) + 4 * v .count) ∷ opens l (v .word) ∷ allBelow (v .count) (λ i. isNumber l (length (v .word) + 4 * i)) ∷ []) 1 h,
+    )
 
 pub written : (c : Command) → (c ≡ Bad → ⊥) → Small (numbersOf c) → parseOf (textOf c) ≡ c
 unfolding verbs opens allBelow

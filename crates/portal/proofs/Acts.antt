@@ -17,7 +17,8 @@ use Rattle.rules.specs.declared.Posted.{Posted}
 use Rattle.rules.specs.declared.Posted.the-variants as Posts
 use Rattle.rules.specs.declared.Kept.{Kept}
 use Rattle.rules.specs.declared.Kept.the-variants as Keeps
-use Rattle.rules.specs.Model.{Row, Held, Tables, Act, local, send, receive, reset, keep, drop, discard, Value, stamp, refusal, accepted, Result, reasons, done, own, event, freeMail, freeSlot, used, sent, slot}
+use Rattle.rules.specs.Model.{Row, Held, Tables, Act, local, send, receive, reset, keep, drop, discard, Value, stamp, refusal, accepted}
+use Rattle.rules.specs.Model.{Result, reasons, done, own, event, freeMail, freeSlot, used, sent, slot}
 use Rattle.rules.specs.Calls.{on, ringOf}
 use Rattle.rules.specs.Replies.{rowBytes, rowOf, stampedSays, postedSays, keptSays, blank, Beside, BesidePost}
 use Rattle.rules.proofs.Bounded.{no-local, no-send, no-receive, no-reset, no-keep}

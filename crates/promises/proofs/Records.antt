@@ -15,7 +15,8 @@ use Rattle.tools.specs.Tables.{Each}
 use Rattle.tools.proofs.Tables.{put-same, some-is, none-some}
 use Rattle.ring.specs.Phases.{Pair, ring}
 use Rattle.rules.specs.declared.Setup.{Setup}
-use Rattle.rules.specs.Model.{Row, Seat, Held, Tables, Act, local, reset, keep, drop, discard, show, send, receive, before, compare, write, Answer, byIn, rowIn, used, why, done, step, settle}
+use Rattle.rules.specs.Model.{Row, Seat, Held, Tables, Act, local, reset, keep, drop, discard, show, send, receive, before, compare, write}
+use Rattle.rules.specs.Model.{Answer, byIn, rowIn, used, why, done, step, settle}
 use Rattle.rules.specs.Labels.{Label, newestOff}
 use Rattle.rules.specs.Fits.{PairFits, RowFits, SlotFits, Fits}
 use Rattle.rules.specs.Setups.{permits}

@@ -12,7 +12,9 @@ use Rattle.ring.specs.Phases.{Phases, Gap, laterBy, lagGap, later}
 use Rattle.rules.specs.declared.Setup.{Setup}
 use Rattle.rules.specs.declared.Relation.the-variants.{Before, After, Same, Concurrent, Crossed}
 use Rattle.rules.specs.Numbers.{Name}
-use Rattle.rules.specs.Model.{Row, Held, Tables, Act, local, reset, keep, drop, discard, send, receive, stamp, sent, accepted, Result, own, freeMail, freeSlot, grown, merged, turned, near, sameBy, isBefore, relation, gapFrom, done, step, settle}
+use Rattle.rules.specs.Model.{Row, Held, Tables, Act, local, reset, keep, drop, discard, send, receive, stamp, sent, accepted, Result}
+use Rattle.rules.specs.Model.{own, freeMail, freeSlot, grown, merged, turned, near, sameBy, isBefore, relation, gapFrom, done, step}
+use Rattle.rules.specs.Model.{settle}
 use Rattle.rules.specs.Due.{Due}
 use Rattle.rules.proofs.Steps.{step-number}
 use Rattle.rules.proofs.Due.{table}

@@ -14,7 +14,8 @@ use Rattle.rules.proofs.Setups.{Permitted}
 use Rattle.rules.specs.declared.Setup.{Setup}
 use Rattle.tools.specs.Tests.{pick}
 use Rattle.rules.specs.declared.Relation.the-variants.{Before, After, Same, Concurrent, Crossed}
-use Rattle.rules.specs.Model.{Held, Tables, before, compare, says, relates, step, done, near, isOut, gapIn, gap, sameBy, isBefore, relation, settle, telling, reasons}
+use Rattle.rules.specs.Model.{Held, Tables, before, compare, says, relates, step, done, near, isOut, gapIn, gap, sameBy, isBefore}
+use Rattle.rules.specs.Model.{relation, settle, telling, reasons}
 use Rattle.rules.specs.History.{Log, History, Leads}
 use Rattle.rules.specs.Demand.{InReach, BeforeIs, CompareIs, Stands}
 use Rattle.tools.proofs.Tests.{and-true-l, and-true-r}

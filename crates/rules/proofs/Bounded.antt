@@ -13,7 +13,9 @@ use Rattle.rules.proofs.Setups.{Permitted}
 use Rattle.rules.specs.declared.Setup.{Setup}
 use Rattle.tools.specs.Tests.{pick, any}
 use Rattle.tools.specs.Tables.{put}
-use Rattle.rules.specs.Model.{Row, Seat, Held, Tables, Act, local, reset, keep, drop, discard, show, send, receive, before, compare, write, step, done, reasons, why, fresh, grown, merged, turned, seated, freeMail, freeSlot, rowIn, used, toIn, own, lags, seatLags, tick, turn, settle}
+use Rattle.rules.specs.Model.{Row, Seat, Held, Tables, Act, local, reset, keep, drop, discard, show, send, receive, before, compare}
+use Rattle.rules.specs.Model.{write, step, done, reasons, why, fresh, grown, merged, turned, seated, freeMail, freeSlot, rowIn, used}
+use Rattle.rules.specs.Model.{toIn, own, lags, seatLags, tick, turn, settle}
 use Rattle.tools.specs.Tables.{Each}
 use Rattle.tools.proofs.Tests.{any-false, not-off, and-true-l, and-true-r, or-false-l, or-false-r}
 use Rattle.tools.proofs.Tables.{put-all, put-both, put-same}

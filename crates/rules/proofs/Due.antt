@@ -14,9 +14,15 @@ use Rattle.tools.proofs.Reasons.{smallest-swap}
 use Rattle.tools.proofs.Tests.{and-true-l, and-true-r, and-false, any-at, any-true, lowest-none, lowest-full, not-off}
 use Rattle.ring.specs.Phases.{Phases, Gap}
 use Rattle.rules.specs.declared.Setup.{Setup}
-use Rattle.rules.specs.Numbers.{Name, NoDesk, SameDesk, NoPlace, NotYours, NoEvent, PhaseFull, MailFull, ShelfFull, SeatBehind, MailBehind, ShelfBehind, NoRoom, OutOfReach, number}
-use Rattle.rules.specs.Model.{Held, Tables, Act, local, reset, keep, drop, discard, show, send, receive, before, compare, write, step, used, toIn, own, atLimit, lags, near, isOut, gapHeld, reasons}
-use Rattle.rules.specs.Due.{at-local, at-send, at-sent, at-receive, at-reset, at-keep, by-local, by-send, by-receive, of-receive, of-discard, OfSlot, of-drop, of-before, of-before′, of-compare, of-compare′, of-show, of-write, Asks, asks-before, asks-compare, asks-back, Gone, lagIn, Beyond, Due, no-desk, same-desk, no-mail, no-slot, not-yours, no-event, phase-full, mail-full, shelf-full, seat-behind, mail-behind, shelf-behind, no-room, out-of-reach, DueNumber}
+use Rattle.rules.specs.Numbers.{Name, NoDesk, SameDesk, NoPlace, NotYours, NoEvent, PhaseFull, MailFull, ShelfFull, SeatBehind}
+use Rattle.rules.specs.Numbers.{MailBehind, ShelfBehind, NoRoom, OutOfReach, number}
+use Rattle.rules.specs.Model.{Held, Tables, Act, local, reset, keep, drop, discard, show, send, receive, before, compare, write, step}
+use Rattle.rules.specs.Model.{used, toIn, own, atLimit, lags, near, isOut, gapHeld, reasons}
+use Rattle.rules.specs.Due.{at-local, at-send, at-sent, at-receive, at-reset, at-keep, by-local, by-send, by-receive, of-receive}
+use Rattle.rules.specs.Due.{of-discard, OfSlot, of-drop, of-before, of-before′, of-compare, of-compare′, of-show, of-write, Asks}
+use Rattle.rules.specs.Due.{asks-before, asks-compare, asks-back, Gone, lagIn, Beyond, Due, no-desk, same-desk, no-mail, no-slot}
+use Rattle.rules.specs.Due.{not-yours, no-event, phase-full, mail-full, shelf-full, seat-behind, mail-behind, shelf-behind, no-room}
+use Rattle.rules.specs.Due.{out-of-reach, DueNumber}
 use Rattle.rules.proofs.Reasons.{act-number}
 
 -- each test of the list, and what its row says

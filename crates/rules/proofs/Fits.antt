@@ -12,7 +12,9 @@ use Rattle.tools.proofs.Tables.{put-all, put-both, put-same}
 use Rattle.ring.specs.Phases.{lagOf, nextOf, ring, Pair, isLater, later}
 use Rattle.ring.proofs.Ring.{lag-self, lag-next, next-below, later-lag}
 use Rattle.rules.specs.declared.Setup.{Setup}
-use Rattle.rules.specs.Model.{Row, Seat, Held, Tables, Act, local, reset, keep, drop, discard, show, send, receive, before, compare, write, step, done, why, fresh, idle, zeros, grown, merged, turned, seated, freeMail, freeSlot, rowIn, used, own, lags, seatLags, tick, turn, settle}
+use Rattle.rules.specs.Model.{Row, Seat, Held, Tables, Act, local, reset, keep, drop, discard, show, send, receive, before, compare}
+use Rattle.rules.specs.Model.{write, step, done, why, fresh, idle, zeros, grown, merged, turned, seated, freeMail, freeSlot, rowIn}
+use Rattle.rules.specs.Model.{used, own, lags, seatLags, tick, turn, settle}
 use Rattle.rules.specs.Fits.{phases, InRange, PairFits, RowFits, MailFits, SlotFits, FitsAt, Fits}
 use Rattle.rules.proofs.Setups.{Permitted}
 use Rattle.rules.proofs.Bounded.{no-local, no-send, no-receive, no-reset, no-keep}

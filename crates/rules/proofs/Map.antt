@@ -10,7 +10,10 @@ use Rattle.ring.specs.Phases.{Phases, Pair, isLater, later}
 use Rattle.rules.specs.declared.Setup.{Setup}
 use Rattle.tools.specs.Tests.{pick}
 use Rattle.tools.specs.Tables.{put}
-use Rattle.rules.specs.Model.{Row, Seat, Held, Tables, Act, local, reset, keep, drop, discard, show, send, receive, before, compare, write, Value, nothing, stamp, sent, slot, shows, accepted, step, done, reasons, why, filing, telling, grown, merged, turned, event, freeMail, freeSlot, rowIn, byIn, toIn, used, own, lags, tick, turn, settle, gapHeld, near}
+use Rattle.rules.specs.Model.{Row, Seat, Held, Tables, Act, local, reset, keep, drop, discard, show, send, receive, before, compare}
+use Rattle.rules.specs.Model.{write, Value, nothing, stamp, sent, slot, shows, accepted, step, done, reasons, why, filing, telling}
+use Rattle.rules.specs.Model.{grown, merged, turned, event, freeMail, freeSlot, rowIn, byIn, toIn, used, own, lags, tick, turn}
+use Rattle.rules.specs.Model.{settle, gapHeld, near}
 use Rattle.rules.specs.Round.{mapPair, mapRow, mapSeat, mapHeld, mapTables, mapValue, mapResult}
 use Rattle.tools.specs.Tables.{Each}
 use Rattle.tools.proofs.Tests.{pick-ap, any-cong}

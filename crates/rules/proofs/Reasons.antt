@@ -9,7 +9,8 @@ use Rattle.tools.specs.Reasons.{first, ascending, Holds, Smallest}
 use Rattle.tools.proofs.Reasons.{first-smallest}
 use Rattle.ring.specs.Phases.{Phases}
 use Rattle.rules.specs.declared.Setup.{Setup}
-use Rattle.rules.specs.Model.{Tables, Act, local, reset, keep, drop, discard, show, send, receive, before, compare, write, Value, refusal, isOut, reasons, step}
+use Rattle.rules.specs.Model.{Tables, Act, local, reset, keep, drop, discard, show, send, receive, before, compare, write, Value}
+use Rattle.rules.specs.Model.{refusal, isOut, reasons, step}
 use Rattle.rules.specs.Calls.{reasonsOf, Book, Call, start, on, Turn, settled, turnOf, call}
 use Rattle.rules.specs.Labels.{reasonsOff, Label, Neither, gapRead, whyOff, settleOff, beforeOff, compareOff, newestBy, newestOff}
 use Rattle.rules.proofs.Steps.{step-number, step-only}

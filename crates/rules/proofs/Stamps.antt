@@ -11,7 +11,8 @@ use Rattle.tools.proofs.Tables.{put-same, put-other, some-is, none-some}
 use Rattle.ring.specs.Phases.{line}
 use Rattle.rules.specs.declared.Setup.{Setup}
 use Rattle.rules.specs.Setups.{permits}
-use Rattle.rules.specs.Model.{Row, Held, Act, local, reset, keep, drop, discard, show, send, receive, before, compare, write, Value, Answer, byIn, rowIn, used, why, done, step, settle}
+use Rattle.rules.specs.Model.{Row, Held, Act, local, reset, keep, drop, discard, show, send, receive, before, compare, write, Value}
+use Rattle.rules.specs.Model.{Answer, byIn, rowIn, used, why, done, step, settle}
 use Rattle.rules.specs.Calls.{Book, Call, start, on, call}
 use Rattle.rules.specs.Labels.{Label}
 use Rattle.rules.specs.Round.{modulo, mapHeld, mapValue, roundRow, roundBook}

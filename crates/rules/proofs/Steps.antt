@@ -4,7 +4,8 @@ use mathlib.Core.Path.{_≡_, refl, ap, _∙_}
 use Prim.Native.Nat.{ℕ, zero, suc}
 use Rattle.ring.specs.Phases.{Phases}
 use Rattle.rules.specs.declared.Setup.{Setup}
-use Rattle.rules.specs.Model.{Tables, Act, local, reset, keep, drop, discard, show, send, receive, before, compare, write, refusal, Result, step, done, why, settle}
+use Rattle.rules.specs.Model.{Tables, Act, local, reset, keep, drop, discard, show, send, receive, before, compare, write, refusal}
+use Rattle.rules.specs.Model.{Result, step, done, why, settle}
 
 module _ (Z : Phases) (X : Setup) (b : Tables) (c : Act) where
   done-zero : (c : Act) → done Z X b c .answer .number ≡ 0

@@ -32,11 +32,15 @@ asked c =
     let a = c .before .before .before .before .before .before .before .before .args in
     pick (a .both) (compare (a .first) (a .second)) (before (a .first) (a .second))
 
+-- what came in
+abbrev entry : tie.After-out-of-reach2 → tie.Start
+entry c = c .before .before .before .before .before .before .before .before
+
 reached : (c : tie.After-out-of-reach2) (o : Bool)
-    → (c .before .before .out-of-reach .result || (c .before .before .before .before .before .before .before .before .args .both && c .out-of-reach2 .result)) ≡ o
-    → pick o (number OutOfReach) 0 ≡ numberOf (c .before .before .before .before .before .before .before .before .args .book .now) (asked c)
+    → (c .before .before .out-of-reach .result || (entry c .args .both && c .out-of-reach2 .result)) ≡ o
+    → pick o (number OutOfReach) 0 ≡ numberOf (entry c .args .book .now) (asked c)
 reached c o e =
-    let a = c .before .before .before .before .before .before .before .before .args in
+    let a = entry c .args in
     let s = c .before .before .before .before .setup-of .ensures in
     let there = reach-told (a .book .now) _ s (a .first) (a .second) _ (c .before .before .before .way-of .ensures) _
     (c .before .before .out-of-reach .ensures) in

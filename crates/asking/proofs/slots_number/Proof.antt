@@ -21,11 +21,15 @@ returns c = rw (sym (c .before .sound .ensures) ∙ not-true _ (c .if1 .taken))
 whole : (c : tie.Else1) → sound (c .before .before .before .args .book .now) ≡ true
 whole c = sym (c .before .sound .ensures) ∙ not-false _ (c .if1 .left)
 
+-- what came in
+abbrev entry : tie.After-is-used2 → tie.Start
+entry c = c .before .before .before .before .before
+
 numbered : (c : tie.After-is-used2) (t : Bool) → (not (c .before .is-used .result) || not (c .is-used2 .result)) ≡ t
     → pick t (number NoPlace) 0
-    ≡ slotsNumber (c .before .before .before .before .before .args .book .now) (c .before .before .before .before .before .args .first) (c .before .before .before .before .before .args .second)
+    ≡ slotsNumber (entry c .args .book .now) (entry c .args .first) (entry c .args .second)
 numbered c t e =
-    let a = c .before .before .before .before .before .args in
+    let a = entry c .args in
     slots-number (a .book .now) (a .first) (a .second) (whole (c .before .before)) t
     ((λ x. not (sym (c .before .is-used .ensures) x) || not (sym (c .is-used2 .ensures) x)) ∙ e)
 

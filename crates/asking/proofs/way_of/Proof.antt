@@ -36,15 +36,19 @@ below c =
     let a = c .before .before .before in
     (slot-place (a .args .book .now) (a .args .first) (a .pre .1 .0), slot-place (a .args .book .now) (a .args .second) (a .pre .1 .1))
 
+-- what came in
+abbrev entry : tie.After-wide → tie.Start
+entry c = c .before .before .before
+
 -- the phases are on the ring
 on-ring : (c : tie.After-wide) (k : ℕ) → k < 72
-    → byte (c .before .before .before .args .book .now) (spot k (4 + 2 * c .wide .result)) < byte (c .before .before .before .args .book .now) 3
+    → byte (entry c .args .book .now) (spot k (4 + 2 * c .wide .result)) < byte (entry c .args .book .now) 3
 on-ring c k l = phase-below _ (c .before .before .before .pre .0 .1) k _ l (eight c)
 
 all-on-ring : (c : tie.After-wide)
-    → RingAt (c .before .before .before .args .book .now) (c .wide .result) (c .before .before .before .args .first) (c .before .before .before .args .second)
+    → RingAt (entry c .args .book .now) (c .wide .result) (entry c .args .first) (entry c .args .second)
 all-on-ring c =
-    let a = c .before .before .before .args in
+    let a = entry c .args in
     let b = below c in
     let e = eight c in
     (on-ring c (c .wide .result) (omega arith), on-ring c (40 + a .first) (omega arith), on-ring c (40 + a .second) (omega arith))

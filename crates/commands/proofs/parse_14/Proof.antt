@@ -11,8 +11,12 @@ returns : tie.Need-returns
 unfolding verbs choose tab
 returns c =
     let t = c .before .before in
-    rw
-    (sift _ 14 (t .before .before .before .before .pre), sym (t .before .is-shaped .ensures) ∙ t .if1 .taken, c .before .number .ensures, c .number2 .ensures)
+    rw (
+      sift _ 14 (t .before .before .before .before .pre),
+      sym (t .before .is-shaped .ensures) ∙ t .if1 .taken,
+      c .before .number .ensures,
+      c .number2 .ensures,
+    )
 
 returns-2 : tie.Need-returns-2
 unfolding verbs choose tab

@@ -18,15 +18,22 @@ unfolding verbs choose tab
 returns-2 c =
     let t = c .before in
     let f = t .before .before .before in
-    rw
-    (sift _ 8 (t .before .before .before .before .before .before .before .pre), sym (f .before .is-shaped .ensures) ∙ f .if1 .left, sym (t .before .is-shaped2 .ensures) ∙ t .if2 .taken, c .number2 .ensures)
+    rw (
+      sift _ 8 (t .before .before .before .before .before .before .before .pre),
+      sym (f .before .is-shaped .ensures) ∙ f .if1 .left,
+      sym (t .before .is-shaped2 .ensures) ∙ t .if2 .taken,
+      c .number2 .ensures,
+    )
 
 returns-3 : tie.Need-returns-3
 unfolding verbs choose tab
 returns-3 c =
     let f = c .before .before .before in
-    rw
-    (sift _ 8 (c .before .before .before .before .before .before .before .pre), sym (f .before .is-shaped .ensures) ∙ f .if1 .left, sym (c .before .is-shaped2 .ensures) ∙ c .if2 .left)
+    rw (
+      sift _ 8 (c .before .before .before .before .before .before .before .pre),
+      sym (f .before .is-shaped .ensures) ∙ f .if1 .left,
+      sym (c .before .is-shaped2 .ensures) ∙ c .if2 .left,
+    )
 
 pub parse-8-spec : {M : Type 1} → statement M
 parse-8-spec =

@@ -42,8 +42,11 @@ feed-requires c κs = (c .before .before .before .before .before .before .loop .
 
 add-at : tie.Need-add-at Inv-loop μ-loop
 add-at c =
-    omega
-    (arith, c .before .before .before .before .before .before .before .before .before .before .before .before .before .before .before .before .good, taken c)
+    omega (
+      arith,
+      c .before .before .before .before .before .before .before .before .before .before .before .before .before .before .before .before .good,
+      taken c,
+    )
 
 slice-aggregate-write-all : tie.Need-slice-aggregate-write-all Inv-loop μ-loop
 slice-aggregate-write-all c = simp length-take (omega arith)

@@ -4,16 +4,21 @@ use mathlib.Core.Path.{_≡_, sym, _∙_}
 use mathlib.Core.Bool.{Bool, true, false}
 use borrow.Author.Needs.{needs}
 use Rattle.rules.specs.Model.{says, accepted}
-use Rattle.rules.specs.Labels.{beforeOff}
+use Rattle.book.specs.Answers.{beforeOf}
 use Rattle.book.specs.Stamps.{readStamp}
 use Rattle.labels.specs.Records.{Between}
 use Rattle.labels.proofs.Answered.{before-refused, within-bytes, before-out, before-told}
 use Rattle.labels.proofs.before.Statement.{statement}
 use Rattle.labels.proofs.before.Tie as tie
 
+-- what came in
+abbrev entry : tie.After-known-told2 → tie.Start
+entry c = c .before .before .before .before .before .before
+
 -- both records read
 ready : (c : tie.After-known-told2)
-    → Between (c .before .before .before .before .before .before .args .s) (readStamp (c .before .before .before .before .before .before .args .s) (c .before .before .before .before .before .before .args .e .now)) (readStamp (c .before .before .before .before .before .before .args .s) (c .before .before .before .before .before .before .args .f .now))
+    → Between (entry c .args .s) (readStamp (entry c .args .s) (entry c .args .e .now))
+    (readStamp (entry c .args .s) (entry c .args .f .now))
     (c .before .asked2 .given .0 .0) (c .before .asked2 .given .0 .1 .0) (c .before .asked2 .given .0 .1 .1 .0)
     (c .before .asked2 .given .0 .1 .1 .1 .0)
 ready c = rw (c .before .asked2 .given .1) at (c .before .before .before .taken-apart .ensures)
@@ -26,8 +31,7 @@ returns c = before-out _ _ _ _ _ _ _ (ready (c .before .before)) (sym (c .before
 
 -- within reach, the answer is what was asked
 said : (c : tie.After-is-before) (t : Bool) → c .is-before .result ≡ t
-    → accepted (says t)
-    ≡ beforeOff (c .before .before .before .before .before .before .before .before .before .args .s) (readStamp (c .before .before .before .before .before .before .before .before .before .args .s) (c .before .before .before .before .before .before .before .before .before .args .e .now)) (readStamp (c .before .before .before .before .before .before .before .before .before .args .s) (c .before .before .before .before .before .before .before .before .before .args .f .now))
+    → (let a = entry (c .before .before .before) .args in accepted (says t) ≡ beforeOf (a .s) (a .e .now) (a .f .now))
 said c t q =
     let b = ready (c .before .before .before) in
     before-told _ _ _ _ _ _ _ b (sym (c .before .before .out-of-reach .ensures) ∙ c .before .if1 .left) t

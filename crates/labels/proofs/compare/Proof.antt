@@ -9,9 +9,14 @@ use Rattle.labels.proofs.Answered.{compare-refused, within-bytes, compa
 use Rattle.labels.proofs.compare.Statement.{statement}
 use Rattle.labels.proofs.compare.Tie as tie
 
+-- what came in
+abbrev entry : tie.After-known-told2 → tie.Start
+entry c = c .before .before .before .before .before .before
+
 -- both records read
 ready : (c : tie.After-known-told2)
-    → Between (c .before .before .before .before .before .before .args .s) (readStamp (c .before .before .before .before .before .before .args .s) (c .before .before .before .before .before .before .args .e .now)) (readStamp (c .before .before .before .before .before .before .args .s) (c .before .before .before .before .before .before .args .f .now))
+    → Between (entry c .args .s) (readStamp (entry c .args .s) (entry c .args .e .now))
+    (readStamp (entry c .args .s) (entry c .args .f .now))
     (c .before .asked2 .given .0 .0) (c .before .asked2 .given .0 .1 .0) (c .before .asked2 .given .0 .1 .1 .0)
     (c .before .asked2 .given .0 .1 .1 .1 .0)
 ready c = rw (c .before .asked2 .given .1) at (c .before .before .before .taken-apart .ensures)

@@ -27,8 +27,10 @@ returns c =
     sym (all-not _ 8 (h .loop .j) (omega arith) (sym (c .before .pair-reads .ensures) ∙ not-true _ (c .if1 .taken)))
 
 loop-again : tie.Need-loop-again Inv-loop μ-loop
-loop-again c =
-    (omega arith, all-more _ _ (c .before .before .before .loop .inv .1) (sym (c .before .pair-reads .ensures) ∙ not-false _ (c .if1 .left)))
+loop-again c = (
+  omega arith,
+  all-more _ _ (c .before .before .before .loop .inv .1) (sym (c .before .pair-reads .ensures) ∙ not-false _ (c .if1 .left)),
+)
 
 returns-2 : tie.Need-returns-2 Inv-loop μ-loop
 returns-2 c = let e : c .before .loop .j ≡ 8 = omega arith in sym (rw e at (c .before .loop .inv .1))

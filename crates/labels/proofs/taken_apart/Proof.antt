@@ -20,15 +20,22 @@ returns c = (λ out. rw (sym (c .before .permits .ensures) ∙ not-true _ (c .if
 permit : (c : tie.Else1) → permits (c .before .before .before .before .args .s) ≡ true
 permit c = sym (c .before .permits .ensures) ∙ not-false _ (c .if1 .left)
 
+-- what came in
+abbrev entry : tie.After-known-told → tie.Start
+entry c = c .before .before .before .before .before .before .before .before .before
+
 -- the first record tells a stamp
 one : (c : tie.After-known-told)
-    → readStamp (c .before .before .before .before .before .before .before .before .before .args .s) (c .before .before .before .before .before .before .before .before .before .args .e .now)
+    → readStamp (entry c .args .s) (entry c .args .e .now)
     ≡ some (record { owner = c .before .one-who .given .0 .0; row = rowOf (c .before .before .before .before .read .result .row) })
 one c = stamp-read _ _ _ _ (c .before .before .before .before .read .ensures .0) _ (c .before .one-who .given .1)
 
+abbrev first : tie.After-known-told2 → tie.After-known-told
+first c = c .before .before .before .before .before
+
 -- and so does the second
 both : (c : tie.After-known-told2)
-    → Both (c .before .before .before .before .before .before .before .before .before .before .before .before .before .before .args .s) (c .before .before .before .before .before .before .before .before .before .before .before .before .before .before .args .e .now) (c .before .before .before .before .before .before .before .before .before .before .before .before .before .before .args .f .now)
+    → Both (entry (first c) .args .s) (entry (first c) .args .e .now) (entry (first c) .args .f .now)
     (c .before .before .before .before .before .before .one-who .given .0 .0)
     (c .before .before .before .before .before .before .before .before .before .read .result .row) (c .before .two-who .given .0 .0)
     (c .before .before .before .before .read2 .result .row)
@@ -47,7 +54,8 @@ returns-2 c =
 returns-3 : tie.Need-returns-3
 returns-3 c =
     let r = c .before .before .before .read2 in
-    (λ out. rw (permit (c .before .before .before .before .before .before .before .before .before), one (c .before .before .before .before), none-read _ _ _ _ (r .ensures .0) _ (c .enum-told2 .given .1)), omega arith)
+    let a = c .before .before .before .before in
+    (λ out. rw (permit (a .before .before .before .before .before), one a, none-read _ _ _ _ (r .ensures .0) _ (c .enum-told2 .given .1)), omega arith)
 
 way-requires : tie.Need-way-requires
 way-requires c κs = way-asks _ _ _ _ _ _ _ (both c)

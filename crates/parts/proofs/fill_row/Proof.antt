@@ -22,8 +22,12 @@ loop-holds c = (search needs, search needs, below-none _)
 loop-again : tie.Need-loop-again Inv-loop μ-loop
 loop-again c =
     let h = c .before .loop in
-    let r = c .before .before .args .t2 in
-    (omega arith, simp length-set (h .inv .1), below-more (λ t. getD (set (h .part) (h .i) (getD r (h .i) 0)) t 0 ≡ getD r t 0) (h .i) (λ t l. getD-set-other (h .part) (h .i) t _ 0 (omega arith) ∙ h .inv .2 t l) (getD-set-same (h .part) (h .i) _ 0 (omega arith)))
+    let r = c .before .before .args .t2 in (
+      omega arith,
+      simp length-set (h .inv .1),
+      below-more (λ t. getD (set (h .part) (h .i) (getD r (h .i) 0)) t 0 ≡ getD r t 0) (h .i)
+          (λ t l. getD-set-other (h .part) (h .i) t _ 0 (omega arith) ∙ h .inv .2 t l) (getD-set-same (h .part) (h .i) _ 0 (omega arith)),
+    )
 
 returns : tie.Need-returns Inv-loop μ-loop
 returns c =

@@ -12,9 +12,13 @@ use Rattle.portal.proofs.Acts.{used-ready, free-done, free-left}
 use Rattle.portal.proofs.free.Statement.{statement}
 use Rattle.portal.proofs.free.Tie as tie
 
+-- what came in
+abbrev entry : tie.Else1 → tie.Start
+entry c = c .before .before .before .before
+
 -- its number is 0
 done : (c : tie.Else1)
-    → usedNumber (c .before .before .before .before .args .book .now) (c .before .before .before .before .args .a) (c .before .before .before .before .args .p) ≡ 0
+    → usedNumber (entry c .args .book .now) (entry c .args .a) (entry c .args .p) ≡ 0
 done c = sym (c .before .used-number .ensures) ∙ c .if1 .left
 
 -- so the book is sound, and there is such a place or slot

@@ -12,9 +12,13 @@ use borrow.Author.Needs.{needs}
 use Rattle.portal.proofs.send.Statement.{statement}
 use Rattle.portal.proofs.send.Tie as tie
 
+-- what came in
+abbrev entry : tie.Else1 → tie.Start
+entry c = c .before .before .before .before
+
 -- what came in, and that its number is 0
 done : (c : tie.Else1)
-    → numberOf (c .before .before .before .before .args .book .now) (send (c .before .before .before .before .args .desk) (c .before .before .before .before .args .to)) ≡ 0
+    → numberOf (entry c .args .book .now) (send (entry c .args .desk) (entry c .args .to)) ≡ 0
 done c = sym (c .before .send-number .ensures) ∙ c .if1 .left
 
 may : (c : tie.Else1) → Grows (c .before .before .before .before .args .book .now) (c .before .before .before .before .args .desk)

@@ -14,9 +14,13 @@ use borrow.Author.Needs.{needs}
 use Rattle.portal.proofs.write.Statement.{statement}
 use Rattle.portal.proofs.write.Tie as tie
 
+-- what came in
+abbrev entry : tie.After-write-number → tie.Start
+entry c = c .before .before .before
+
 -- the number that write answers
 answered : (c : tie.After-write-number) → c .write-number .result
-    ≡ answerTo (c .before .before .before .args .book .now) (on (write (c .before .before .before .args .slot) (length (c .before .before .before .args .target .now)))) .number
+    ≡ answerTo (entry c .args .book .now) (on (write (entry c .args .slot) (length (entry c .args .target .now)))) .number
 answered c = c .write-number .ensures ∙ sym (answer-number _ _)
 
 returns : tie.Need-returns
@@ -35,8 +39,10 @@ lend-requires c κs =
 returns-2 : tie.Need-returns-2
 returns-2 c =
     let a = c .before .before .before .before .before .before .before .before .before .before .args in
-    let r = c .before .before .before .before .before in
-    (sym (r .before .if1 .left) ∙ answered (r .before .before), c .before .before .lend .ensures ∙ ap (filled (a .target .now)) (r .record-at .ensures))
+    let r = c .before .before .before .before .before in (
+      sym (r .before .if1 .left) ∙ answered (r .before .before),
+      c .before .before .lend .ensures ∙ ap (filled (a .target .now)) (r .record-at .ensures),
+    )
 
 pub write-spec : {M : Type 1} → statement M
 write-spec =

@@ -32,8 +32,11 @@ returns c =
 loop-again : tie.Need-loop-again Inv-loop μ-loop
 loop-again c =
     let h = c .before .before .before in
-    let x = h .before .before .args in
-    (omega arith, below-more (λ k. not (used (heldAt (x .book .now) (x .a) k)) ≡ false) (h .loop .p) (h .loop .inv .1) (ap not (sym (c .before .is-used .ensures ∙ used-held (x .book .now) (x .a) (h .loop .p) (omega arith))) ∙ c .if1 .left))
+    let x = h .before .before .args in (
+      omega arith,
+      below-more (λ k. not (used (heldAt (x .book .now) (x .a) k)) ≡ false) (h .loop .p) (h .loop .inv .1)
+          (ap not (sym (c .before .is-used .ensures ∙ used-held (x .book .now) (x .a) (h .loop .p) (omega arith))) ∙ c .if1 .left),
+    )
 
 returns-2 : tie.Need-returns-2 Inv-loop μ-loop
 returns-2 c =

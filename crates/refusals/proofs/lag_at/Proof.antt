@@ -11,8 +11,11 @@ lag-requires c κs =
     let x = c .before .before .before .before in
     let s = x .args .book .now in
     let j = x .args .desk in
-    omega
-    (arith, phase-below s (x .pre .0 .whole) j j (omega arith) (omega arith), phase-below s (x .pre .0 .whole) (x .args .k) j (omega arith) (omega arith))
+    omega (
+      arith,
+      phase-below s (x .pre .0 .whole) j j (omega arith) (omega arith),
+      phase-below s (x .pre .0 .whole) (x .args .k) j (omega arith) (omega arith),
+    )
 
 returns : tie.Need-returns
 returns c = cc

@@ -29,8 +29,12 @@ asked c = λ i. c .before .no-desk .ensures i || c .no-desk2 .ensures i
 desks : (c : tie.Else2) → neither (c .before .before) ≡ false
 desks c = sym (asked (c .before)) ∙ c .if2 .left
 
+-- what came in
+abbrev entry : tie.Else2 → tie.Start
+entry c = c .before .before .before .before .before .before
+
 there : (c : tie.Else2)
-    → AtDesk (c .before .before .before .before .before .before .args .book .now) (c .before .before .before .before .before .before .args .desk)
+    → AtDesk (entry c .args .book .now) (entry c .args .desk)
 there c = desk-there _ _ (whole (c .before .before .before)) (or-false-l _ _ (desks c))
 
 returns : tie.Need-returns
@@ -57,8 +61,12 @@ returns-4 : tie.Need-returns-4
 unfolding reasons
 returns-4 c =
     let d = c .before .before .before in
-    rw
-    (whole (d .before .before .before), desks d, ne-eqb _ _ (c .before .before .if3 .left), sym (c .before .at-limit .ensures) ∙ c .if4 .taken)
+    rw (
+      whole (d .before .before .before),
+      desks d,
+      ne-eqb _ _ (c .before .before .if3 .left),
+      sym (c .before .at-limit .ensures) ∙ c .if4 .taken,
+    )
 
 full-requires : tie.Need-full-requires
 full-requires c κs = (there (c .before .before .before) .size, search needs)
@@ -67,15 +75,25 @@ returns-5 : tie.Need-returns-5
 unfolding reasons
 returns-5 c =
     let d = c .before .before .before .before .before in
-    rw
-    (whole (d .before .before .before), desks d, ne-eqb _ _ (c .before .before .before .before .if3 .left), sym (c .before .before .before .at-limit .ensures) ∙ c .before .before .if4 .left, sym (c .before .full .ensures) ∙ c .if5 .taken)
+    rw (
+      whole (d .before .before .before),
+      desks d,
+      ne-eqb _ _ (c .before .before .before .before .if3 .left),
+      sym (c .before .before .before .at-limit .ensures) ∙ c .before .before .if4 .left,
+      sym (c .before .full .ensures) ∙ c .if5 .taken,
+    )
 
 returns-6 : tie.Need-returns-6
 unfolding reasons
 returns-6 c =
     let d = c .before .before .before .before .before in
-    rw
-    (whole (d .before .before .before), desks d, ne-eqb _ _ (c .before .before .before .before .if3 .left), sym (c .before .before .before .at-limit .ensures) ∙ c .before .before .if4 .left, sym (c .before .full .ensures) ∙ c .if5 .left)
+    rw (
+      whole (d .before .before .before),
+      desks d,
+      ne-eqb _ _ (c .before .before .before .before .if3 .left),
+      sym (c .before .before .before .at-limit .ensures) ∙ c .before .before .if4 .left,
+      sym (c .before .full .ensures) ∙ c .if5 .left,
+    )
 
 pub send-number-spec : {M : Type 1} → statement M
 send-number-spec =

@@ -26,8 +26,11 @@ loop-holds c = (search needs, filled-none 16 _ _ (length-replicate {A = ℕ} 16 
 loop-again : tie.Need-loop-again Inv-loop μ-loop
 loop-again c =
     let h = c .before .before .before .before .loop in
-    let e = c .before .before .later-of .ensures .1 in
-    (omega arith, filled-pair _ (h .k) (h .row) _ _ (h .inv .1) (omega arith) (c .before .phase-at .ensures ∙ ap (λ (q : Pair). q .phase) e) (c .clock-at .ensures ∙ ap (λ (q : Pair). q .clock) e))
+    let e = c .before .before .later-of .ensures .1 in (
+      omega arith,
+      filled-pair _ (h .k) (h .row) _ _ (h .inv .1) (omega arith) (c .before .phase-at .ensures ∙ ap (λ (q : Pair). q .phase) e)
+          (c .clock-at .ensures ∙ ap (λ (q : Pair). q .clock) e),
+    )
 
 returns : tie.Need-returns Inv-loop μ-loop
 unfolding rowBytes

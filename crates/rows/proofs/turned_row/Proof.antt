@@ -15,8 +15,12 @@ next-requires c κs =
 
 returns : tie.Need-returns
 returns c = let x = c .before .before .before .before .before .before in c .with-pair .ensures
-    ∙ rw
-    (c .before .before .before .before .row-array .ensures, c .before .next .ensures, c .before .before .phases-of .ensures, c .before .before .before .phase-at .ensures)
+    ∙ rw (
+      c .before .before .before .before .row-array .ensures,
+      c .before .next .ensures,
+      c .before .before .phases-of .ensures,
+      c .before .before .before .phase-at .ensures,
+    )
     (turned-bytes (x .args .book .now) (x .args .j) (x .pre .eight))
 
 pub turned-row-spec : {M : Type 1} → statement M

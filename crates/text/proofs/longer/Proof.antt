@@ -43,8 +43,13 @@ loop-again c =
       omega (arith, leb-true),
       omega arith,
       omega arith,
-      rw
-          (add-one (h .n), take-suc-set (h .line) (h .n) x (omega (arith, leb-true)), h .inv .4, add-one, take-suc (a .more .now) (h .i) 0 (omega arith))
+      rw (
+        add-one (h .n),
+        take-suc-set (h .line) (h .n) x (omega (arith, leb-true)),
+        h .inv .4,
+        add-one,
+        take-suc (a .more .now) (h .i) 0 (omega arith),
+      )
           (append-assoc (lineOf (a .p)) (take (h .i) (a .more .now)) (x ∷ [])),
     )
 
@@ -52,8 +57,10 @@ returns : tie.Need-returns Inv-loop μ-loop
 returns c =
     let h = c .before .before .loop in
     let a = c .before .before .before .before .args in
-    let e : most ≡ length (lineOf (a .p)) + h .i = omega (arith, leb-false, held-length (c .before .before .before .before)) in
-    (omega arith, h .inv .4 ∙ sym (ap (λ (k : ℕ). take k (lineOf (a .p) ++ a .more .now)) e ∙ take-append-add (lineOf (a .p)) (a .more .now) (h .i)))
+    let e : most ≡ length (lineOf (a .p)) + h .i = omega (arith, leb-false, held-length (c .before .before .before .before)) in (
+      omega arith,
+      h .inv .4 ∙ sym (ap (λ (k : ℕ). take k (lineOf (a .p) ++ a .more .now)) e ∙ take-append-add (lineOf (a .p)) (a .more .now) (h .i)),
+    )
 
 returns-2 : tie.Need-returns-2 Inv-loop μ-loop
 returns-2 c =
