@@ -6,16 +6,13 @@ ghost use Rattle.text.specs.Put.{Wrote};
 ghost use Rattle.answering.specs.Answering.{commandText, commandBook, lineText, lineBook};
 use commands::Command;
 
-// The byte of D in a book.
-const DESKS: usize = 2;
-
 // The call that a command asks for is made, and its answer is printed; a BadLine makes no call.
 fn obey(book: &mut [u8], out: &mut [u8], at: usize, c: Command) -> usize
     requires { ⌜ at + 76 ≤ length (now out) ⌝ }
     ensures { λ r. ⌜ Wrote (now (out .entry)) at (commandText (now (book .entry)) c) (now (out .exit)) r ⌝ }
     ensures { λ _. ⌜ now (book .exit) ≡ commandBook (now (book .entry)) c ⌝ }
 {
-    let desks = text::byte_or_zero(&book[..], DESKS);
+    let desks = portal::desks_in(&book[..]);
     match c {
         Command::Start(s) => replies::put_number(out, at, portal::start(book, s)),
         Command::Local(d) => replies::put_stamped(out, at, desks, portal::local(book, d)),

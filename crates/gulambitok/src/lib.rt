@@ -8,9 +8,6 @@ ghost use Rattle.rules.specs.Calls.{on};
 ghost use Rattle.book.specs.Answers.{answerTo, bookAfter, partIn, targetAfter, beforeOf, compareOf};
 ghost use Rattle.door.specs.Door.{setupBy, tooShort, eitherShort, cramped, bookBy, given, byteIn, stampIn, whichIn};
 
-// The byte of D in a book.
-const DESKS: usize = 2;
-
 // Start writes a fresh book: rows zero, no seat started, all places free.
 #[no_mangle]
 pub extern "C" fn gulambitok_start(
@@ -47,7 +44,7 @@ pub extern "C" fn gulambitok_local(book: &mut [u8], desk: usize, stamp: &mut [u8
     if stamp.len() < 20 {
         return door::number_by(true, refusals::local_number(&book[..], desk));
     }
-    let desks = text::byte_or_zero(&book[..], DESKS);
+    let desks = portal::desks_in(&book[..]);
     let stamped = portal::local(book, desk);
     door::give_stamp(stamp, desks, stamped)
 }
@@ -70,7 +67,7 @@ pub extern "C" fn gulambitok_receive(
     if stamp.len() < 20 {
         return door::number_by(true, refusals::receive_number(&book[..], desk, place));
     }
-    let desks = text::byte_or_zero(&book[..], DESKS);
+    let desks = portal::desks_in(&book[..]);
     let stamped = portal::receive(book, desk, place);
     door::give_stamp(stamp, desks, stamped)
 }
@@ -88,7 +85,7 @@ pub extern "C" fn gulambitok_reset(book: &mut [u8], desk: usize, stamp: &mut [u8
     if stamp.len() < 20 {
         return door::number_by(true, refusals::reset_number(&book[..], desk));
     }
-    let desks = text::byte_or_zero(&book[..], DESKS);
+    let desks = portal::desks_in(&book[..]);
     let stamped = portal::reset(book, desk);
     door::give_stamp(stamp, desks, stamped)
 }
@@ -114,7 +111,7 @@ pub extern "C" fn gulambitok_send(
     if (stamp.len() < 20) | (place.len() < 1) {
         return door::number_by(true, refusals::send_number(&book[..], desk, to));
     }
-    let desks = text::byte_or_zero(&book[..], DESKS);
+    let desks = portal::desks_in(&book[..]);
     let sent = portal::send(book, desk, to);
     door::give_sent(stamp, place, desks, sent)
 }

@@ -3,7 +3,7 @@ ghost use mathlib.Core.Path.{_≡_};
 ghost use mathlib.Core.Bool.{true};
 ghost use Prim.Native.Nat.{_<_, _≤_};
 ghost use lib.ListN.{length};
-ghost use Rattle.tools.specs.Lists.{tab, Filled};
+ghost use Rattle.tools.specs.Lists.{byte, tab, Filled};
 ghost use Rattle.rules.specs.Setups.{permits};
 ghost use Rattle.rules.specs.Model;
 ghost use Rattle.rules.specs.Model.{refusal};
@@ -33,6 +33,16 @@ const FREE: u8 = 0;
 
 // The filler of a tag that says nothing.
 const FILLER: u8 = 0;
+
+// The byte of D in a book of any length, 0 in one too short to have it: who prints a stamp asks it before the call.
+pub fn desks_in(book: &[u8]) -> u8
+    ensures { λ r. ⌜ r ≡ byte (now (book .entry)) 2 ⌝ }
+{
+    if book.len() <= 2 {
+        return 0;
+    }
+    book[2]
+}
 
 fn no_stamp() -> Stamp
     ensures { λ r. ⌜ r ≡ blank ⌝ }

@@ -4,7 +4,6 @@ ghost use mathlib.Core.List.{[], _∷_, _++_};
 ghost use Prim.Native.Nat.{_+_, _*_, _-_, _<_, _≤_};
 ghost use lib.ListN.{length, take};
 ghost use Rattle.tools.specs.Tests.{allBelow};
-ghost use Rattle.tools.specs.Lists.{byte};
 ghost use Rattle.text.specs.Words.{opens};
 ghost use Rattle.text.specs.Digits.{isDigit, isNumber, numberAt};
 ghost use Rattle.text.specs.Put.{Wrote, three};
@@ -17,16 +16,6 @@ pub const LINE_MOST: usize = 64;
 pub struct Pending {
     pub line: [u8; 65],
     pub count: usize,
-}
-
-// The byte at a place, 0 beyond the end.
-pub fn byte_or_zero(s: &[u8], i: usize) -> u8
-    ensures { λ r. ⌜ r ≡ byte (now (s .entry)) i ⌝ }
-{
-    if s.len() <= i {
-        return 0;
-    }
-    s[i]
 }
 
 // Whether the bytes begin with a word.

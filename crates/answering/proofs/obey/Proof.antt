@@ -9,22 +9,22 @@ use Rattle.answering.proofs.obey.Tie as tie
 put-stamped-requires : tie.Need-put-stamped-requires
 put-stamped-requires c κs =
     let k = c .before .before in
-    (printable _ _ _ (k .before .before .before .before .before .before .byte-or-zero .ensures) _ (k .local .ensures .0), search needs)
+    (printable _ _ _ (k .before .before .before .before .before .before .desks-in .ensures) _ (k .local .ensures .0), search needs)
 
 put-sent-requires : tie.Need-put-sent-requires
 put-sent-requires c κs =
     let k = c .before .before in
-    (printable _ _ _ (k .before .before .before .before .before .before .byte-or-zero .ensures) _ (k .send .ensures .0), search needs)
+    (printable _ _ _ (k .before .before .before .before .before .before .desks-in .ensures) _ (k .send .ensures .0), search needs)
 
 put-stamped-requires-2 : tie.Need-put-stamped-requires-2
 put-stamped-requires-2 c κs =
     let k = c .before .before in
-    (printable _ _ _ (k .before .before .before .before .before .before .byte-or-zero .ensures) _ (k .receive .ensures .0), search needs)
+    (printable _ _ _ (k .before .before .before .before .before .before .desks-in .ensures) _ (k .receive .ensures .0), search needs)
 
 put-stamped-requires-3 : tie.Need-put-stamped-requires-3
 put-stamped-requires-3 c κs =
     let k = c .before .before in
-    (printable _ _ _ (k .before .before .before .before .before .before .byte-or-zero .ensures) _ (k .reset .ensures .0), search needs)
+    (printable _ _ _ (k .before .before .before .before .before .before .desks-in .ensures) _ (k .reset .ensures .0), search needs)
 
 returns : tie.Need-returns
 returns c =
@@ -36,25 +36,25 @@ returns-2 : tie.Need-returns-2
 returns-2 c =
     let k = c .before .before .before .before .before in
     printed _ _ _ _ _ (k .before .before .before .before .c2 .given .1) _ _ _ _ (k .local .ensures .0) (k .local .ensures .1 .1)
-    _ (k .before .before .before .before .before .before .byte-or-zero .ensures) (c .before .before .put-stamped .ensures)
+    _ (k .before .before .before .before .before .before .desks-in .ensures) (c .before .before .put-stamped .ensures)
 
 returns-3 : tie.Need-returns-3
 returns-3 c =
     let k = c .before .before .before .before .before in
     printed _ _ _ _ _ (k .before .before .before .before .c3 .given .1) _ _ _ _ (k .send .ensures .0) (k .send .ensures .1 .1)
-    _ (k .before .before .before .before .before .before .byte-or-zero .ensures) (c .before .before .put-sent .ensures)
+    _ (k .before .before .before .before .before .before .desks-in .ensures) (c .before .before .put-sent .ensures)
 
 returns-4 : tie.Need-returns-4
 returns-4 c =
     let k = c .before .before .before .before .before in
     printed _ _ _ _ _ (k .before .before .before .before .c4 .given .1) _ _ _ _ (k .receive .ensures .0) (k .receive .ensures .1 .1)
-    _ (k .before .before .before .before .before .before .byte-or-zero .ensures) (c .before .before .put-stamped2 .ensures)
+    _ (k .before .before .before .before .before .before .desks-in .ensures) (c .before .before .put-stamped2 .ensures)
 
 returns-5 : tie.Need-returns-5
 returns-5 c =
     let k = c .before .before .before .before .before in
     printed _ _ _ _ _ (k .before .before .before .before .c5 .given .1) _ _ _ _ (k .reset .ensures .0) (k .reset .ensures .1 .1)
-    _ (k .before .before .before .before .before .before .byte-or-zero .ensures) (c .before .before .put-stamped3 .ensures)
+    _ (k .before .before .before .before .before .before .desks-in .ensures) (c .before .before .put-stamped3 .ensures)
 
 returns-6 : tie.Need-returns-6
 returns-6 c =

@@ -11,7 +11,7 @@ returns c = stamp-short _ _ _ (c .before .before .before .if1 .taken) _ _ (c .be
 returns-2 : tie.Need-returns-2
 returns-2 c =
     let k = c .before .before .before .before .before .before in
-    stamp-room _ _ _ (k .before .before .before .before .if1 .left) _ (k .before .before .byte-or-zero .ensures)
+    stamp-room _ _ _ (k .before .before .before .before .if1 .left) _ (k .before .before .desks-in .ensures)
     _ (k .receive .ensures .0) _ _ _ (k .receive .ensures .1 .1) (c .before .before .give-stamp .ensures)
 
 pub gulambitok-receive-spec : {M : Type 1} → statement M

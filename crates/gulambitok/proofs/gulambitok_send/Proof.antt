@@ -22,7 +22,7 @@ give-sent-requires c κs =
 returns-2 : tie.Need-returns-2
 returns-2 c =
     let k = c .before .before .before .before .before .before .before .before .before in
-    sent-room _ _ _ _ (k .before .before .before .before .if1 .left) _ (k .before .before .byte-or-zero .ensures)
+    sent-room _ _ _ _ (k .before .before .before .before .if1 .left) _ (k .before .before .desks-in .ensures)
     _ (k .send .ensures .0) _ _ _ _ (k .send .ensures .1 .1) (c .before .before .before .before .give-sent .ensures)
 
 pub gulambitok-send-spec : {M : Type 1} → statement M
