@@ -1,23 +1,26 @@
 -- Laws of the parts of the sound check.
 -- Assumes nothing.
-use Prim.Native.Nat.{ℕ, zero, suc, _+_, _*_, _-_, _≤_, _<_}
+use Prim.Native.Nat.{ℕ, _+_, _*_, _-_, _≤_, _<_}
 use mathlib.Core.Path.{_≡_, refl, ap, sym, _∙_}
 use mathlib.Core.Bool.{Bool, true, false, _&&_, true≢false}
 use mathlib.Core.List.{List, [], _∷_}
+use mathlib.Core.Logic.{⊎-elim}
 use native.Mathlib.Omega.{arith}
 use native.Mathlib.Numerals.{add-one}
 use lib.Dec.{ltb, leb, eqb}
+use lib.ListN.{length, set, length-set}
+use lib.Seq.{getD-set-same, getD-set-other}
+use borrow.Author.Count.{below-none, below-more}
 use borrow.Author.Tests.{eq-eqb, ne-eqb, ltb-true, ltb-false, lt-ltb, le-ltb, leb-true, leb-false, le-leb, lt-leb}
 use Rattle.ring.specs.Phases.{lagOf}
 use Rattle.ring.proofs.Ring.{lag-below, lag-down, lag-round}
 use Rattle.tools.specs.Tests.{pick, allOf, allBelow}
 use Rattle.tools.specs.Lists.{byte}
-use Rattle.tools.proofs.Tests.{alike, each, all-at, all-in}
-use Rattle.tools.proofs.Lists.{tab-at}
+use Rattle.tools.proofs.Tests.{lt-or-le, alike, each, all-at, all-in}
 use Rattle.book.specs.Layout.{fields, setupOf, spot}
-use Rattle.book.specs.Sound.{pairOk, columnOk, rowOk, seatNear, seatOk, mailOk, slotOk, recordOk, recordSound}
-use Rattle.soundness.specs.declared.Desks.{Desks}
-use Rattle.soundness.specs.Checks.{ownIn, countOf, desksOf, ownOk, Ready, withMark}
+use Rattle.book.specs.Sound.{pairOk, columnOk, rowOk, columnZero, rowZero}
+use Rattle.book.specs.Sound.{seatRest, seatNear, seatOk, mailOk, slotOk, recordOk, recordSound}
+use Rattle.soundness.specs.Checks.{countOf, Limits, ownOk, Ready}
 
 -- one test more
 pub and-more : (p : ℕ → Bool) (n : ℕ) (ok t : Bool) → ok ≡ allBelow n p → t ≡ p n → (ok && t) ≡ allBelow (n + 1) p
@@ -28,27 +31,9 @@ pub all-start : (p : ℕ → Bool) → true ≡ allBelow 0 p
 unfolding allBelow
 all-start p = refl
 
-and-assoc : (a b c : Bool) → ((a && b) && c) ≡ (a && (b && c))
-and-assoc true b c = refl
-and-assoc false b c = refl
-
 and-true : (a : Bool) → (a && true) ≡ a
 and-true true = refl
 and-true false = refl
-
--- the first m numbers, and the n after them
-all-split : (p : ℕ → Bool) (m n : ℕ) → allBelow (m + n) p ≡ (allBelow m p && allBelow n (λ i. p (m + i)))
-unfolding allBelow
-all-split p m zero = let e : m + 0 ≡ m = omega arith in rw e (sym (and-true (allBelow m p)))
-all-split p m (suc n) =
-    let e : m + suc n ≡ suc (m + n) = omega arith in
-    rw (e, all-split p m n) (and-assoc (allBelow m p) (allBelow n (λ i. p (m + i))) (p (m + n)))
-
--- the seats, the mail places and the slots
-pub by-kind : (p : ℕ → Bool) → allBelow 72 p ≡ (allBelow 8 p && (allBelow 32 (λ i. p (8 + i)) && allBelow 32 (λ i. p (40 + i))))
-by-kind p =
-    all-split p 40 32 ∙ ap (λ t. t && allBelow 32 (λ i. p (40 + i))) (all-split p 8 32)
-    ∙ and-assoc (allBelow 8 p) (allBelow 32 (λ i. p (8 + i))) (allBelow 32 (λ i. p (40 + i)))
 
 le-by : (a b c d : ℕ) → (a ≤ b → c ≤ d) → (b < a → d < c) → leb a b ≡ leb c d
 le-by a b c d f g =
@@ -80,31 +65,52 @@ pair-sums p own v B t o = go (ltb v p) refl
     go false e = refl
 
 below-one : (v : ℕ) → ltb v 1 ≡ eqb v 0
-below-one v = alike (ltb v 1) (eqb v 0) (λ e. eq-eqb v 0 (omega (arith, ltb-true v 1 e))) (λ e. ne-eqb v 0 (λ q. absurd (omega (arith, ltb-false v 1 e))))
+below-one v =
+    alike (ltb v 1) (eqb v 0) (λ e. eq-eqb v 0 (omega (arith, ltb-true v 1 e)))
+    (λ e. ne-eqb v 0 (λ q. absurd (omega (arith, ltb-false v 1 e))))
 
--- what the pairs of desk j are held to
-module _ (b : List ℕ) (q : Desks) (e : q ≡ desksOf b) (j : ℕ) (l : j < 8) where
-  own-at : byte (q .own) j ≡ ownIn b j
-  unfolding desksOf
-  own-at = ap (λ (x : Desks). byte (x .own) j) e ∙ tab-at 8 (ownIn b) j l
+-- the limits that are filled from the front
+pub limits-none : (b l : List ℕ) → length l ≡ 24 → Limits b 0 l
+limits-none b l e = record { size = e; phases = below-none _; own = below-none _; clocks = below-none _ }
 
-  phases-at : byte (q .phases) j ≡ countOf (setupOf b .desks) (setupOf b .phases) j
-  unfolding desksOf
-  phases-at = ap (λ (x : Desks). byte (x .phases) j) e ∙ tab-at 8 (countOf (setupOf b .desks) (setupOf b .phases)) j l
+module _ (b l : List ℕ) (c x y z : ℕ) (h : Limits b c l) (q : c < 8) where
+  abbrev one : List ℕ
+  one = set l c x
 
-  clocks-at : byte (q .clocks) j ≡ countOf (setupOf b .desks) (setupOf b .clocks) j
-  unfolding desksOf
-  clocks-at = ap (λ (x : Desks). byte (x .clocks) j) e ∙ tab-at 8 (countOf (setupOf b .desks) (setupOf b .clocks)) j l
+  abbrev two : List ℕ
+  two = set one (8 + c) y
+
+  kept : (i : ℕ) → (i ≡ c → ⊥) → (i ≡ 8 + c → ⊥) → (i ≡ 16 + c → ⊥) → byte (set two (16 + c) z) i ≡ byte l i
+  kept i n m o = getD-set-other two (16 + c) i z 0 o ∙ getD-set-other one (8 + c) i y 0 m ∙ getD-set-other l c i x 0 n
+
+  pub limits-more : x ≡ countOf (setupOf b .desks) (setupOf b .phases) c → y ≡ fields b .at c .row c .phase
+      → z ≡ countOf (setupOf b .desks) (setupOf b .clocks) c
+      → Limits b (c + 1) (set two (16 + c) z)
+  limits-more e f g =
+      record {
+        size = simp length-set (h .size);
+        phases =
+            below-more _ c (λ i r. kept i (omega arith) (omega arith) (omega arith) ∙ h .phases i r)
+            (getD-set-other two (16 + c) c z 0 (omega arith) ∙ getD-set-other one (8 + c) c y 0 (omega arith)
+            ∙ getD-set-same l c x 0 (omega (arith, h .size)) ∙ e);
+        own =
+            below-more _ c (λ i r. kept (8 + i) (omega arith) (omega arith) (omega arith) ∙ h .own i r)
+            (getD-set-other two (16 + c) (8 + c) z 0 (omega arith)
+            ∙ getD-set-same one (8 + c) y 0 (simp length-set (omega (arith, h .size))) ∙ f);
+        clocks =
+            below-more _ c (λ i r. kept (16 + i) (omega arith) (omega arith) (omega arith) ∙ h .clocks i r)
+            (getD-set-same two (16 + c) z 0 (simp length-set (omega (arith, h .size))) ∙ g);
+      }
 
 -- a pair against what its desk is held to, as the definition has it
 column-at : (b : List ℕ) (B k j : ℕ)
     → allOf
     (ltb (byte b (spot k (4 + 2 * j))) (countOf (setupOf b .desks) (setupOf b .phases) j)
     ∷ ltb (byte b (spot k (5 + 2 * j))) (countOf (setupOf b .desks) (setupOf b .clocks) j)
-    ∷ leb (lagOf (countOf (setupOf b .desks) (setupOf b .phases) j) (ownIn b j) (byte b (spot k (4 + 2 * j)))) B
+    ∷ leb (lagOf (countOf (setupOf b .desks) (setupOf b .phases) j) (byte b (spot j (4 + 2 * j))) (byte b (spot k (4 + 2 * j)))) B
     ∷ [])
     ≡ columnOk (fields b) B k j
-unfolding columnOk pairOk countOf ownIn allOf
+unfolding columnOk pairOk countOf allOf
 column-at b B k j = go (ltb j (byte b 2)) refl
   where
     v : ℕ
@@ -113,77 +119,77 @@ column-at b B k j = go (ltb j (byte b 2)) refl
     t : ℕ
     t = byte b (spot k (5 + 2 * j))
 
+    own : ℕ
+    own = byte b (spot j (4 + 2 * j))
+
     go : (u : Bool) → ltb j (byte b 2) ≡ u
-        → (ltb v (pick u (byte b 3) 1) && (ltb t (pick u (byte b 4) 1) && leb (lagOf (pick u (byte b 3) 1) (pick u (byte b (spot j (4 + 2 * j))) 0) v) B))
-        ≡ pick u (ltb v (byte b 3) && (ltb t (byte b 4) && leb (lagOf (byte b 3) (byte b (spot j (4 + 2 * j))) v) B)) (eqb v 0 && eqb t 0)
+        → (ltb v (pick u (byte b 3) 1) && (ltb t (pick u (byte b 4) 1) && leb (lagOf (pick u (byte b 3) 1) own v) B))
+        ≡ pick u (ltb v (byte b 3) && (ltb t (byte b 4) && leb (lagOf (byte b 3) own v) B)) (eqb v 0 && eqb t 0)
     go true e = refl
     go false e =
-        let z : lagOf 1 0 v ≡ 0 = omega (arith, lag-below 1 0 v (omega arith)) in
-        let y : leb (lagOf 1 0 v) B ≡ true = le-leb (lagOf 1 0 v) B (omega arith) in
+        let z : lagOf 1 own v ≡ 0 = omega (arith, lag-below 1 own v (omega arith)) in
+        let y : leb (lagOf 1 own v) B ≡ true = le-leb (lagOf 1 own v) B (omega arith) in
         rw (y, below-one v, below-one t) (ap (λ s. eqb v 0 && s) (and-true (eqb t 0)))
 
-pub column-is : (b : List ℕ) (q : Desks) (B k j v t : ℕ) (r : Bool) → Ready b q → j < 8
+pub column-is : (b l : List ℕ) (B k j v t : ℕ) (r : Bool) → Ready b l → j < 8
     → v ≡ byte b (spot k (4 + 2 * j)) → t ≡ byte b (spot k (5 + 2 * j))
-    → r ≡ allOf (ltb v (byte (q .phases) j) ∷ ltb t (byte (q .clocks) j) ∷ leb (lagOf (byte (q .phases) j) (byte (q .own) j) v) B ∷ [])
+    → r ≡ allOf (ltb v (byte l j) ∷ ltb t (byte l (16 + j)) ∷ leb (lagOf (byte l j) (byte l (8 + j)) v) B ∷ [])
     → r ≡ columnOk (fields b) B k j
-column-is b q B k j v t r h l x y z =
-    let e : q ≡ desksOf b = h .desks in
-    rw (x, y, phases-at b q e j l, clocks-at b q e j l, own-at b q e j l) at z ∙ column-at b B k j
+column-is b l B k j v t r h q x y z =
+    rw (x, y, h .limits .phases j q, h .limits .clocks j q, h .limits .own j q) at z ∙ column-at b B k j
 
-pub own-below : (b : List ℕ) (q : Desks) (j : ℕ) → Ready b q → j < 8 → byte (q .own) j < byte (q .phases) j
+pub own-below : (b l : List ℕ) (j : ℕ) → Ready b l → j < 8 → byte l (8 + j) < byte l j
 unfolding ownOk
-own-below b q j r l = ltb-true _ _ (all-at (λ i. ltb (byte (q .own) i) (byte (q .phases) i)) 8 j l (r .own))
+own-below b l j r q = ltb-true _ _ (all-at (λ i. ltb (byte l (8 + i)) (byte l i)) 8 j q (r .own))
 
--- a sound record, by its kind
-pub seat-sound : (b : List ℕ) (k : ℕ) (t r : Bool) → k < 8 → t ≡ seatOk (fields b) k → r ≡ withMark b k t → r ≡ recordSound b k
-unfolding withMark recordSound recordOk
-seat-sound b k t r l e m = rw (recordSound, recordOk, lt-ltb k 8 l, ← e) m
-
-pub place-sound : (b : List ℕ) (i : ℕ) (t r : Bool) → i < 32 → t ≡ mailOk (fields b) (8 + i) → r ≡ withMark b (8 + i) t
-    → r ≡ recordSound b (8 + i)
-unfolding withMark recordSound recordOk
-place-sound b i t r l e m = rw (recordSound, recordOk, le-ltb (8 + i) 8 (omega arith), lt-ltb (8 + i) 40 (omega arith), ← e) m
-
-pub slot-sound : (b : List ℕ) (i : ℕ) (t r : Bool) → i < 32 → t ≡ slotOk (fields b) (40 + i) → r ≡ withMark b (40 + i) t
-    → r ≡ recordSound b (40 + i)
-unfolding withMark recordSound recordOk
-slot-sound b i t r l e m = rw (recordSound, recordOk, le-ltb (40 + i) 8 (omega arith), le-ltb (40 + i) 40 (omega arith), ← e) m
-
--- where the seats are sound, each desk's own phase is on the ring
-own-seat : (b : List ℕ) (j : ℕ) → j < 8 → recordSound b j ≡ true → j < setupOf b .desks
-    → ltb (byte b (spot j (4 + 2 * j))) (setupOf b .phases) ≡ true
-unfolding recordSound recordOk seatOk seatNear rowOk columnOk pairOk
-own-seat b j l s d = each _ pair 0
+-- a free place and a free slot are asked the same
+pub free-is : (b : List ℕ) (k : ℕ) → 8 ≤ k → byte b (spot k 2) ≡ 0
+    → (eqb (byte b (spot k 3)) 0 && rowZero (fields b) k) ≡ recordOk (fields b) k
+unfolding recordOk mailOk slotOk allOf
+free-is b k l e = rw (recordOk, le-ltb k 8 l, mailOk, slotOk, eq-eqb (byte b (spot k 2)) 0 e) (go (ltb k 40))
   where
-    ok : seatOk (fields b) j ≡ true
-    ok = rw (recordOk, lt-ltb j 8 l) at (each _ s 2)
+    go : (t : Bool) → (eqb (byte b (spot k 3)) 0 && rowZero (fields b) k)
+        ≡ pick t (eqb (byte b (spot k 3)) 0 && rowZero (fields b) k) (eqb (byte b (spot k 3)) 0 && rowZero (fields b) k)
+    go true = refl
+    go false = refl
 
-    row : rowOk (fields b) (setupOf b .seatLag) j ≡ true
-    row = rw (seatNear, lt-ltb j (setupOf b .desks) d) at (each _ ok 3)
+-- where a seat is sound, its own phase is on the ring: as a desk's, or as a zero where there is no desk
+module _ (b : List ℕ) (j : ℕ) (l : j < 8) (s : recordSound b j ≡ true) where
+  seat : seatOk (fields b) j ≡ true
+  unfolding recordSound recordOk
+  seat = rw (recordOk, lt-ltb j 8 l) at (each _ s 2)
 
-    pair : allOf (ltb (byte b (spot j (4 + 2 * j))) (setupOf b .phases) ∷ ltb (byte b (spot j (5 + 2 * j))) (setupOf b .clocks) ∷ leb (lagOf (setupOf b .phases) (byte b (spot j (4 + 2 * j))) (byte b (spot j (4 + 2 * j)))) (setupOf b .seatLag) ∷ []) ≡ true
-    pair = rw (columnOk, pairOk, lt-ltb j (setupOf b .desks) d) at (all-at (columnOk (fields b) (setupOf b .seatLag) j) 8 j l row)
+  no-desk : setupOf b .desks ≤ j → rowZero (fields b) j ≡ true
+  unfolding seatOk seatRest
+  no-desk d = go (eqb (byte b (spot j 2)) 0) (each _ seat 2)
+    where
+      go : (t : Bool) → pick t (rowZero (fields b) j) (ltb j (setupOf b .desks)) ≡ true → rowZero (fields b) j ≡ true
+      go true e = e
+      go false e = absurd (true≢false (sym e ∙ le-ltb j (setupOf b .desks) d))
 
-own-here : (b : List ℕ) (j : ℕ) → j < 8 → recordSound b j ≡ true
-    → ltb (ownIn b j) (countOf (setupOf b .desks) (setupOf b .phases) j) ≡ true
-unfolding ownIn countOf
-own-here b j l s = go (ltb j (byte b 2)) refl
-  where
-    go : (t : Bool) → ltb j (byte b 2) ≡ t → ltb (pick t (byte b (spot j (4 + 2 * j))) 0) (pick t (byte b 3) 1) ≡ true
-    go true e = own-seat b j l s (ltb-true j (byte b 2) e)
-    go false e = refl
+  own-column : columnOk (fields b) (setupOf b .seatLag) j j ≡ true
+  unfolding seatOk seatNear rowOk rowZero columnOk columnZero pairOk
+  own-column =
+      ⊎-elim
+      (λ (d : j < setupOf b .desks).
+      all-at (columnOk (fields b) (setupOf b .seatLag) j) 8 j l (rw (seatNear, lt-ltb j (setupOf b .desks) d) at (each _ seat 3)))
+      (λ (d : setupOf b .desks ≤ j).
+      rw (columnOk, pairOk, le-ltb j (setupOf b .desks) d) (all-at (columnZero (fields b) j) 8 j l (no-desk d)))
+      (lt-or-le j (setupOf b .desks))
 
-own-sound : (b : List ℕ) → allBelow 72 (recordSound b) ≡ true → ownOk (desksOf b) ≡ true
-unfolding ownOk
-own-sound b s =
-    all-in (λ j. ltb (byte (desksOf b .own) j) (byte (desksOf b .phases) j)) 8
-    (λ j l.
-    rw (own-at b (desksOf b) refl j l, phases-at b (desksOf b) refl j l)
-    (own-here b j l (all-at (recordSound b) 72 j (omega arith) s)))
+  own-here : ltb (byte b (spot j (4 + 2 * j))) (countOf (setupOf b .desks) (setupOf b .phases) j) ≡ true
+  own-here = each _ (column-at b (setupOf b .seatLag) j j ∙ own-column) 0
 
-pub own-off : (b : List ℕ) → ownOk (desksOf b) ≡ false → allBelow 72 (recordSound b) ≡ false
-own-off b h = go (allBelow 72 (recordSound b)) refl
-  where
-    go : (t : Bool) → allBelow 72 (recordSound b) ≡ t → t ≡ false
-    go true e = absurd (true≢false (sym (own-sound b e) ∙ h))
-    go false e = refl
+module _ (b l : List ℕ) (h : Limits b 8 l) where
+  own-sound : allBelow 72 (recordSound b) ≡ true → ownOk l ≡ true
+  unfolding ownOk
+  own-sound s =
+      all-in (λ j. ltb (byte l (8 + j)) (byte l j)) 8
+      (λ j q. rw (h .own j q, h .phases j q) (own-here b j q (all-at (recordSound b) 72 j (omega arith) s)))
+
+  pub own-off : ownOk l ≡ false → allBelow 72 (recordSound b) ≡ false
+  own-off e = go (allBelow 72 (recordSound b)) refl
+    where
+      go : (t : Bool) → allBelow 72 (recordSound b) ≡ t → t ≡ false
+      go true f = absurd (true≢false (sym (own-sound f) ∙ e))
+      go false f = refl

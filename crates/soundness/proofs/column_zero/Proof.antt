@@ -6,15 +6,9 @@ use borrow.Author.Needs.{needs}
 use Rattle.soundness.proofs.column_zero.Statement.{statement}
 use Rattle.soundness.proofs.column_zero.Tie as tie
 
-phase-at-requires : tie.Need-phase-at-requires
-phase-at-requires c κs = search needs
-
-clock-at-requires : tie.Need-clock-at-requires
-clock-at-requires c κs = search needs
-
 returns : tie.Need-returns
 unfolding columnZero allOf
 returns c = rw (columnZero, c .before .phase-at .ensures, c .clock-at .ensures)
 
 pub column-zero-spec : {M : Type 1} → statement M
-column-zero-spec = tie.close (tie.spec phase-at-requires clock-at-requires returns)
+column-zero-spec = tie.close (tie.spec (λ c κs. search needs) (λ c κs. search needs) returns)

@@ -1,46 +1,52 @@
 -- `soundness::records_sound` meets its contract.
 -- Assumes nothing.
-use mathlib.Core.Path.{ap, sym, _∙_}
+use Prim.Native.Nat.{_≤_, _-_}
+use mathlib.Core.Path.{_≡_, sym, _∙_}
+use native.Mathlib.Omega.{arith}
 use borrow.Author.Tests.{not-true, not-false}
-use Rattle.book.specs.Sound.{recordSound}
-use Rattle.soundness.specs.Checks.{ownOk, Ready}
-use Rattle.soundness.proofs.Checks.{by-kind, own-off}
 use borrow.Author.Needs.{needs}
+use Rattle.tools.specs.Tests.{allBelow}
+use Rattle.book.specs.Sound.{recordSound}
+use Rattle.soundness.proofs.Checks.{all-start, and-more, own-off}
 use Rattle.soundness.proofs.records_sound.Statement.{statement}
 use Rattle.soundness.proofs.records_sound.Tie as tie
 
-desks-in-requires : tie.Need-desks-in-requires
-desks-in-requires c κs = search needs
+abbrev Inv-loop : tie.InvT-loop
+Inv-loop book limits ok₀ k₀ ok k = (k ≤ 72) × (ok ≡ allBelow k (recordSound book))
 
-own-ok-requires : tie.Need-own-ok-requires
-own-ok-requires c κs = search needs
+abbrev μ-loop : tie.MeasureT-loop
+μ-loop book limits ok₀ k₀ ok k = 72 - k
 
-ready : (c : tie.Else1) → Ready (c .before .before .before .before .args .book .now) (c .before .before .desks-in .result)
-ready c = record { size = search needs; desks = c .before .before .desks-in .ensures; own = sym (c .before .own-ok .ensures) ∙ not-false _ (c .if1 .left) }
+returns : tie.Need-returns Inv-loop μ-loop
+returns c =
+    sym
+    (own-off _ _ (c .before .before .before .limits-of .ensures) (sym (c .before .own-ok .ensures) ∙ not-true _ (c .if1 .taken)))
 
-returns : tie.Need-returns
-returns c = sym (own-off _ (ap ownOk (sym (c .before .before .desks-in .ensures)) ∙ sym (c .before .own-ok .ensures) ∙ not-true _ (c .if1 .taken)))
+loop-holds : tie.Need-loop-holds Inv-loop μ-loop
+loop-holds c = (search needs, all-start _)
 
-seats-sound-requires : tie.Need-seats-sound-requires
-seats-sound-requires c κs = ready c
+record-sound-requires : tie.Need-record-sound-requires Inv-loop μ-loop
+record-sound-requires c κs =
+    let e = c .before .before .before in (
+      record {
+        size = search needs;
+        limits = e .before .before .before .limits-of .ensures;
+        own = sym (e .before .own-ok .ensures) ∙ not-false _ (e .if1 .left);
+      },
+      search needs,
+    )
 
-mail-sound-requires : tie.Need-mail-sound-requires
-mail-sound-requires c κs = ready (c .before)
+loop-again : tie.Need-loop-again Inv-loop μ-loop
+loop-again c =
+    let h = c .before .before .before .loop in
+    (omega arith, and-more _ (h .k) _ _ (h .inv .1) (c .record-sound .ensures))
 
-shelf-sound-requires : tie.Need-shelf-sound-requires
-shelf-sound-requires c κs = ready (c .before .before)
-
-returns-2 : tie.Need-returns-2
-returns-2 c = rw (c .before .before .seats-sound .ensures, c .before .mail-sound .ensures, c .shelf-sound .ensures) (sym (by-kind (recordSound (c .before .before .before .before .before .before .before .args .book .now))))
+returns-2 : tie.Need-returns-2 Inv-loop μ-loop
+returns-2 c = let h = c .before .loop in let e : h .k ≡ 72 = omega arith in rw e at (h .inv .1)
 
 pub records-sound-spec : {M : Type 1} → statement M
 records-sound-spec =
     tie.close
     (tie.spec
-    desks-in-requires
-    own-ok-requires
-    returns
-    seats-sound-requires
-    mail-sound-requires
-    shelf-sound-requires
-    returns-2)
+    Inv-loop μ-loop (λ c κs. search needs) (λ c κs. search needs) returns loop-holds record-sound-requires (λ c. omega arith)
+    (λ c. omega arith) loop-again returns-2)

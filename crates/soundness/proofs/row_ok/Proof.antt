@@ -13,40 +13,30 @@ use Rattle.soundness.proofs.row_ok.Statement.{statement}
 use Rattle.soundness.proofs.row_ok.Tie as tie
 
 abbrev Inv-loop : tie.InvT-loop
-Inv-loop book bound k desks ok₀ j₀ ok j = (j ≤ 8) × (ok ≡ allBelow j (columnOk (fields book) bound k))
+Inv-loop book limits bound k ok₀ j₀ ok j = (j ≤ 8) × (ok ≡ allBelow j (columnOk (fields book) bound k))
 
 abbrev μ-loop : tie.MeasureT-loop
-μ-loop book bound k desks ok₀ j₀ ok j = 8 - j
+μ-loop book limits bound k ok₀ j₀ ok j = 8 - j
 
 loop-holds : tie.Need-loop-holds Inv-loop μ-loop
 loop-holds c = (search needs, all-start _)
 
-phase-at-requires : tie.Need-phase-at-requires Inv-loop μ-loop
-phase-at-requires c κs = search needs
-
-clock-at-requires : tie.Need-clock-at-requires Inv-loop μ-loop
-clock-at-requires c κs = search needs
-
-element-copy-out-pair-ok : tie.Need-element-copy-out-pair-ok Inv-loop μ-loop
-element-copy-out-pair-ok c = search needs
-
-element-copy-out-pair-ok-2 : tie.Need-element-copy-out-pair-ok-2 Inv-loop μ-loop
-element-copy-out-pair-ok-2 c = search needs
-
-element-copy-out-pair-ok-3 : tie.Need-element-copy-out-pair-ok-3 Inv-loop μ-loop
-element-copy-out-pair-ok-3 c = search needs
-
 pair-ok-requires : tie.Need-pair-ok-requires Inv-loop μ-loop
-pair-ok-requires c κs = let a = c .before .before .before .before .before .before .before .before .args in (own-below (a .book .now) (a .t2) (c .before .before .before .before .before .before .loop .j) (search needs) (omega arith), search needs)
-
-add-j : tie.Need-add-j Inv-loop μ-loop
-add-j c = omega arith
-
-loop-less : tie.Need-loop-less Inv-loop μ-loop
-loop-less c = omega arith
+pair-ok-requires c κs =
+    let a = c .before .before .before .before .before .before .before .before .args in
+    let h = c .before .before .before .before .before .before .loop in
+    (own-below (a .book .now) (a .limits .now) (h .j) (search needs) (omega arith), search needs)
 
 loop-again : tie.Need-loop-again Inv-loop μ-loop
-loop-again c = let a = c .before .before .before .before .before .before .before .before .before .args in let h = c .before .before .before .before .before .before .before .loop in (omega arith, and-more _ (h .j) _ _ (h .inv .1) (column-is (a .book .now) (a .t2) (a .bound) (a .k) (h .j) _ _ _ (c .before .before .before .before .before .before .before .before .before .pre .0) (omega arith) (c .before .before .before .before .before .phase-at .ensures) (c .before .before .before .before .clock-at .ensures) (c .pair-ok .ensures)))
+loop-again c =
+    let s = c .before .before .before .before .before .before .before .before .before in
+    let h = c .before .before .before .before .before .before .before .loop in
+    let v = c .before .before .before .before .before .phase-at .ensures in
+    let t = c .before .before .before .before .clock-at .ensures in
+    let e =
+    column-is (s .args .book .now) (s .args .limits .now) (s .args .bound) (s .args .k) (h .j) _ _ _ (s .pre .0) (omega arith) v t
+    (c .pair-ok .ensures) in
+    (omega arith, and-more _ (h .j) _ _ (h .inv .1) e)
 
 returns : tie.Need-returns Inv-loop μ-loop
 unfolding rowOk
@@ -56,16 +46,5 @@ pub row-ok-spec : {M : Type 1} → statement M
 row-ok-spec =
     tie.close
     (tie.spec
-    Inv-loop
-    μ-loop
-    loop-holds
-    phase-at-requires
-    clock-at-requires
-    element-copy-out-pair-ok
-    element-copy-out-pair-ok-2
-    element-copy-out-pair-ok-3
-    pair-ok-requires
-    add-j
-    loop-less
-    loop-again
-    returns)
+    Inv-loop μ-loop loop-holds (λ c κs. search needs) (λ c κs. search needs) (λ c. omega arith) (λ c. search needs) (λ c. search needs)
+    (λ c. omega arith) (λ c. search needs) pair-ok-requires (λ c. omega arith) (λ c. omega arith) loop-again returns)

@@ -20,15 +20,6 @@ abbrev μ-loop : tie.MeasureT-loop
 loop-holds : tie.Need-loop-holds Inv-loop μ-loop
 loop-holds c = (search needs, all-start _)
 
-column-zero-requires : tie.Need-column-zero-requires Inv-loop μ-loop
-column-zero-requires c κs = search needs
-
-add-j : tie.Need-add-j Inv-loop μ-loop
-add-j c = omega arith
-
-loop-less : tie.Need-loop-less Inv-loop μ-loop
-loop-less c = omega arith
-
 loop-again : tie.Need-loop-again Inv-loop μ-loop
 loop-again c = let h = c .before .before .loop in (omega arith, and-more _ (h .j) _ _ (h .inv .1) (c .column-zero .ensures))
 
@@ -38,5 +29,4 @@ returns c = let h = c .before .loop in let e : h .j ≡ 8 = omega arith in rw e 
 
 pub row-zero-spec : {M : Type 1} → statement M
 row-zero-spec =
-    tie.close
-    (tie.spec Inv-loop μ-loop loop-holds column-zero-requires add-j loop-less loop-again returns)
+    tie.close (tie.spec Inv-loop μ-loop loop-holds (λ c κs. search needs) (λ c. omega arith) (λ c. omega arith) loop-again returns)

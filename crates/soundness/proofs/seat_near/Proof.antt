@@ -8,33 +8,19 @@ use borrow.Author.Needs.{needs}
 use Rattle.soundness.proofs.seat_near.Statement.{statement}
 use Rattle.soundness.proofs.seat_near.Tie as tie
 
-desks-of-requires : tie.Need-desks-of-requires
-desks-of-requires c κs = search needs
-
-seat-lag-of-requires : tie.Need-seat-lag-of-requires
-seat-lag-of-requires c κs = search needs
-
-wide-requires : tie.Need-wide-requires
-wide-requires c κs = search needs
-
-row-ok-requires : tie.Need-row-ok-requires
-row-ok-requires c κs = search needs
-
 returns : tie.Need-returns
 unfolding seatNear
-returns c = let a = c .before .before .before .before .before .before .args in rw (seatNear, lt-ltb (a .k) (byte (a .book .now) 2) (omega arith), c .row-ok .ensures, c .before .wide .ensures, c .before .before .seat-lag-of .ensures)
+returns c =
+    let a = c .before .before .before .before .before .before .args in
+    rw (seatNear, lt-ltb (a .k) (byte (a .book .now) 2) (omega arith))
+    (rw (c .row-ok .ensures, c .before .wide .ensures, c .before .before .seat-lag-of .ensures))
 
 returns-2 : tie.Need-returns-2
 unfolding seatNear
-returns-2 c = let a = c .before .before .before .args in rw (seatNear, le-ltb (a .k) (byte (a .book .now) 2) (omega arith))
+returns-2 c =
+    let a = c .before .before .before .args in
+    rw (seatNear, le-ltb (a .k) (byte (a .book .now) 2) (omega arith))
 
 pub seat-near-spec : {M : Type 1} → statement M
 seat-near-spec =
-    tie.close
-    (tie.spec
-    desks-of-requires
-    seat-lag-of-requires
-    wide-requires
-    row-ok-requires
-    returns
-    returns-2)
+    tie.close (tie.spec (λ c κs. search needs) (λ c κs. search needs) (λ c κs. search needs) (λ c κs. search needs) returns returns-2)

@@ -7,15 +7,6 @@ use borrow.Author.Needs.{needs}
 use Rattle.soundness.proofs.seat_rest.Statement.{statement}
 use Rattle.soundness.proofs.seat_rest.Tie as tie
 
-tag-a-requires : tie.Need-tag-a-requires
-tag-a-requires c κs = search needs
-
-row-zero-requires : tie.Need-row-zero-requires
-row-zero-requires c κs = search needs
-
-desks-of-requires : tie.Need-desks-of-requires
-desks-of-requires c κs = search needs
-
 returns : tie.Need-returns
 unfolding seatRest
 returns c = rw (seatRest, eq-eqb _ _ (sym (c .before .before .tag-a .ensures) ∙ c .before .if1 .taken)) (c .row-zero .ensures)
@@ -26,4 +17,4 @@ returns-2 c = rw (seatRest, ne-eqb _ _ (λ e. c .before .if1 .left (c .before .b
 
 pub seat-rest-spec : {M : Type 1} → statement M
 seat-rest-spec =
-    tie.close (tie.spec tag-a-requires row-zero-requires desks-of-requires returns returns-2)
+    tie.close (tie.spec (λ c κs. search needs) (λ c κs. search needs) (λ c κs. search needs) returns returns-2)

@@ -13,29 +13,12 @@ returns : tie.Need-returns
 unfolding sound
 returns c = sym (not-each _ 0 (ne-eqb _ _ (c .if1 .taken)))
 
-head-ok-requires : tie.Need-head-ok-requires
-head-ok-requires c κs = search needs
-
-setup-of-requires : tie.Need-setup-of-requires
-setup-of-requires c κs = search needs
-
-permits-requires : tie.Need-permits-requires
-permits-requires c κs = search needs
-
-records-sound-requires : tie.Need-records-sound-requires
-records-sound-requires c κs = search needs
-
 returns-2 : tie.Need-returns-2
 unfolding sound allOf
-returns-2 c = rw (sound, eq-eqb _ _ (c .before .before .before .before .if1 .left), c .records-sound .ensures, c .before .permits .ensures, c .before .before .setup-of .ensures, c .before .before .before .head-ok .ensures)
+returns-2 c =
+    rw (sound, eq-eqb _ _ (c .before .before .before .before .if1 .left), c .records-sound .ensures)
+    (rw (c .before .permits .ensures, c .before .before .setup-of .ensures, c .before .before .before .head-ok .ensures))
 
 pub sound-spec : {M : Type 1} → statement M
 sound-spec =
-    tie.close
-    (tie.spec
-    returns
-    head-ok-requires
-    setup-of-requires
-    permits-requires
-    records-sound-requires
-    returns-2)
+    tie.close (tie.spec returns (λ c κs. search needs) (λ c κs. search needs) (λ c κs. search needs) (λ c κs. search needs) returns-2)
