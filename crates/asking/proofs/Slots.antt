@@ -18,7 +18,7 @@ use Rattle.book.specs.Layout.{spot, setupOf, rowAt}
 use Rattle.book.specs.Sound.{sound}
 use Rattle.book.specs.Codec.{readRow}
 use Rattle.book.specs.Numbers.{tablesOf}
-use Rattle.book.proofs.Soundness.{sound-setup, sound-slot}
+use Rattle.book.proofs.Soundness.{heldIn, sound-setup, sound-slot}
 use Rattle.book.proofs.Told.{own-at, read-at, few-desks}
 use Rattle.comparing.specs.declared.Way.{Way}
 use Rattle.comparing.specs.Ways.{gapOf}
@@ -38,7 +38,7 @@ module _ (s : List ℕ) (i : ℕ) (n : noSlot (tablesOf s) i ≡ false) where
   slot-used = eqb-false (byte s (spot (40 + i) 2)) 0 (not-true _ (used-tag s 40 i slot-place ∙ there))
 
   slot-held : tablesOf s .shelf i
-      ≡ some record { by = byte s (spot (40 + i) 2) - 1; to = byte s (spot (40 + i) 3) - 1; row = readRow (rowAt s (40 + i)) }
+      ≡ some (heldIn s (40 + i))
   slot-held = rw (lt-ltb i 32 slot-place, ne-eqb (byte s (spot (40 + i) 2)) 0 slot-used)
 
   pub slot-by : byIn (tablesOf s .shelf i) ≡ byte s (spot (40 + i) 2) - 1
@@ -67,7 +67,8 @@ module _ (s : List ℕ) (h : sound s ≡ true) (i k : ℕ) (n : noSlot (tablesOf
         ∙ ap (λ (d : ℕ). gap (ringOf (setupOf s)) (setupOf s) (tablesOf s) d (readRow (rowAt s (40 + i))) (readRow (rowAt s (40 + k)))) by
         ∙ (λ t.
         near (setupOf s)
-        (lagGap (ringOf (setupOf s)) (own-at s j desk t .phase) (read-at (rowAt s (40 + i)) j desk t) (read-at (rowAt s (40 + k)) j desk t)))
+        (lagGap (ringOf (setupOf s)) (own-at s j desk t .phase) (read-at (rowAt s (40 + i)) j desk t)
+        (read-at (rowAt s (40 + k)) j desk t)))
 
     clock-at : (p : ℕ) → noSlot (tablesOf s) p ≡ false
         → byte s (spot (40 + p) (5 + 2 * j)) ≡ rowIn (tablesOf s .shelf p) (byIn (tablesOf s .shelf i)) .clock

@@ -120,7 +120,11 @@ module _ (f : Fields) (few : f .setup .desks ≤ 8) where
       go j true e =
           let p : allOf (eqb (f .at k .row j .phase) 0 ∷ eqb (f .at k .row j .clock) 0 ∷ []) ≡ true
           = all-at (columnZero f k) 8 j (ltb-true j 8 e) h in
-          λ i. record { phase = eqb-true (f .at k .row j .phase) 0 (each _ p 0) i; clock = eqb-true (f .at k .row j .clock) 0 (each _ p 1) i }
+          λ i.
+          record {
+            phase = eqb-true (f .at k .row j .phase) 0 (each _ p 0) i;
+            clock = eqb-true (f .at k .row j .clock) 0 (each _ p 1) i;
+          }
       go j false e = refl
 
 -- what a sound book says of a seat, of a mail place and of a slot
@@ -216,6 +220,10 @@ module _ (f : Fields) (few : f .setup .desks ≤ 8) (k : ℕ) where
             row = λ n. row-fits f few (f .setup .shelfLag) k (each _ p 2);
           }
 
+-- what record k holds, if it is used
+abbrev pub heldIn : List ℕ → ℕ → Held
+heldIn b k = record { by = byte b (spot k 2) - 1; to = byte b (spot k 3) - 1; row = readRow (fields b .at k .row) }
+
 -- each record of a sound book
 module _ (b : List ℕ) (s : sound b ≡ true) where
   few-desks : setupOf b .desks ≤ 8
@@ -270,16 +278,12 @@ module _ (b : List ℕ) (s : sound b ≡ true) where
               absurd (let m = q .desk (eqb-false (byte b (spot j 2)) 0 z) in omega arith)
 
       -- a place or slot is free, or fits where its first tag is not 0
-      held : (a p : ℕ) (Q : Held → Type 0)
-          → (p < 32 → (byte b (spot (a + p) 2) ≡ 0 → ⊥)
-          → Q (record { by = byte b (spot (a + p) 2) - 1; to = byte b (spot (a + p) 3) - 1; row = readRow (((fields b) .at (a + p)) .row) }))
+      held : (a p : ℕ) (Q : Held → Type 0) → (p < 32 → (byte b (spot (a + p) 2) ≡ 0 → ⊥) → Q (heldIn b (a + p)))
           → (t : Bool) → ltb p 32 ≡ t → Each Q (pick t (readHeld ((fields b) .at (a + p))) none)
       held a p Q fits false e = tt
       held a p Q fits true e = go (eqb (byte b (spot (a + p) 2)) 0) refl
         where
-          go : (t : Bool) → eqb (byte b (spot (a + p) 2)) 0 ≡ t
-              → Each Q
-              (pick t none (some record { by = byte b (spot (a + p) 2) - 1; to = byte b (spot (a + p) 3) - 1; row = readRow (((fields b) .at (a + p)) .row) }))
+          go : (t : Bool) → eqb (byte b (spot (a + p) 2)) 0 ≡ t → Each Q (pick t none (some (heldIn b (a + p))))
           go true z = tt
           go false z = fits (ltb-true p 32 e) (eqb-false _ _ z)
 

@@ -117,7 +117,10 @@ unfolding choose shaped
 other v vs l h =
     rw (
       choose,
-      not-each (eqb (length l) (length (v .word) + 4 * v .count) ∷ opens l (v .word) ∷ allBelow (v .count) (λ i. isNumber l (length (v .word) + 4 * i)) ∷ []) 1 h,
+      not-each
+          (eqb (length l) (length (v .word) + 4 * v .count)
+          ∷ opens l (v .word)
+          ∷ allBelow (v .count) (λ i. isNumber l (length (v .word) + 4 * i)) ∷ []) 1 h,
     )
 
 pub written : (c : Command) → (c ≡ Bad → ⊥) → Small (numbersOf c) → parseOf (textOf c) ≡ c

@@ -168,8 +168,10 @@ module _ (s : List ℕ) (X : Setup) (started : answerTo s (start X) .number ≡ 
     in-range =
         let w = together s X started (k .earlier) in
         subst (λ (Y : Setup). Readable Y (k .stamp)) (ap (λ (b : Book). b .setup) (w .told) ∙ sym same-setup)
-        (step-label (decode then .setup) (permitted (decode then .setup) (sound-setup then (w .whole))) (decode then .tables) (sound-fits then (w .whole)) (k .act) (k .stamp)
-        (ap (λ (a : Answer). stampIn (ownerAt (decode then .tables) (slotOf (k .act))) (a .value)) (sym (answer-is then (on (k .act)) (w .whole))) ∙ k .given))
+        (step-label (decode then .setup) (permitted (decode then .setup) (sound-setup then (w .whole))) (decode then .tables)
+        (sound-fits then (w .whole)) (k .act) (k .stamp)
+        (ap (λ (a : Answer). stampIn (ownerAt (decode then .tables) (slotOf (k .act))) (a .value))
+        (sym (answer-is then (on (k .act)) (w .whole))) ∙ k .given))
 
     -- and its record tells it again
     reads : readStamp (setupAfter X cs) r ≡ some (k .stamp)

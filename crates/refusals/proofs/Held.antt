@@ -16,10 +16,10 @@ use Rattle.rules.specs.Model.{Row, used, toIn, noDesk, lags}
 use Rattle.rules.specs.Calls.{ringOf}
 use Rattle.book.specs.Layout.{spot, rowAt, fields, setupOf}
 use Rattle.book.specs.Sound.{sound}
-use Rattle.book.specs.Codec.{readRow, readHeld}
+use Rattle.book.specs.Codec.{readHeld}
 use Rattle.book.specs.Numbers.{tablesOf}
 use Rattle.book.proofs.Told.{own-at, seat-row, read-at}
-use Rattle.book.proofs.Soundness.{sound-mail}
+use Rattle.book.proofs.Soundness.{heldIn, sound-mail}
 use Rattle.rows.specs.Rows.{AtDesk}
 use Rattle.rows.proofs.Rows.{at-desk}
 use Rattle.refusals.specs.Held.{heldAt, usedAt, lagIn, lagsAt, seatLagsAt}
@@ -47,7 +47,7 @@ module _ (s : List ℕ) (a p : ℕ) where
     used-tag = sym (used-held ∙ rw (lt-ltb p 32 l) (go (eqb (byte s (spot (a + p) 2)) 0)))
       where
         go : (t : Bool)
-            → used (pick t none (some record { by = byte s (spot (a + p) 2) - 1; to = byte s (spot (a + p) 3) - 1; row = readRow (rowAt s (a + p)) })) ≡ not t
+            → used (pick t none (some (heldIn s (a + p)))) ≡ not t
         go true = refl
         go false = refl
 
@@ -57,7 +57,7 @@ module _ (s : List ℕ) (a p : ℕ) where
         go : (t : Bool)
             → (not t && eqb (lagIn s j (a + p)) B)
             ≡ lags (ringOf (setupOf s)) (tablesOf s) j B
-            (pick t none (some record { by = byte s (spot (a + p) 2) - 1; to = byte s (spot (a + p) 3) - 1; row = readRow (rowAt s (a + p)) }))
+            (pick t none (some (heldIn s (a + p))))
         go true = refl
         go false = rw (own-at s j lj, read-at (rowAt s (a + p)) j lj)
 
@@ -68,7 +68,7 @@ addressed s h p l u j = rw (lt-ltb p 32 l) (go (eqb (byte s (spot (8 + p) 2)) 0)
   where
     go : (t : Bool) → eqb (byte s (spot (8 + p) 2)) 0 ≡ t
         → eqb (byte s (spot (8 + p) 3)) (j + 1)
-        ≡ eqb (toIn (pick t none (some record { by = byte s (spot (8 + p) 2) - 1; to = byte s (spot (8 + p) 3) - 1; row = readRow (rowAt s (8 + p)) }))) j
+        ≡ eqb (toIn (pick t none (some (heldIn s (8 + p))))) j
     go true e = absurd (false≢true (sym (sym (used-tag s 8 p l) ∙ ap not e) ∙ u))
     go false e =
         let some-to = sound-mail s h p l .some-to (eqb-false (byte s (spot (8 + p) 2)) 0 e) in

@@ -86,7 +86,8 @@ module _ (X : Setup) (h : Log) (c : Causal X h) (x y : ℕ) (lx : x < h .count) 
       (go (ℕ-discrete (h .desk x) (h .desk y)))
     where
       go : Dec (h .desk x ≡ h .desk y)
-          → ((ltb (seen X h x x) (seen X h x y) || (not (eqb (h .desk x) (h .desk y)) && eqb (seen X h x x) (seen X h x y))) ≡ true) ↔ Leads h x y
+          → ((ltb (seen X h x x) (seen X h x y) || (not (eqb (h .desk x) (h .desk y)) && eqb (seen X h x x) (seen X h x y))) ≡ true)
+          ↔ Leads h x y
       go (yes q) = rw (eq-eqb (h .desk x) (h .desk y) q) (one-desk q)
       go (no q) = rw (ne-eqb (h .desk x) (h .desk y) q) (two-desks q)
 
@@ -94,8 +95,10 @@ module _ (X : Setup) (h : Log) (c : Causal X h) (x y : ℕ) (lx : x < h .count) 
       → ((eqb (h .desk x) (h .desk y) && sameBy d (h .row x (h .desk x) .clock) (h .row y (h .desk x) .clock)) ≡ true) ↔ (x ≡ y)
   same-is d t =
       rw (same-key X d (h .row x (h .desk x)) (h .row y (h .desk x)) t (c .clocks x lx (h .desk x)) (c .clocks y ly (h .desk x))) (
-        (λ e. to (eqb-true _ _ (and-true-l _ _ e)) (eqb-true _ _ (and-true-r (eqb (h .desk x) (h .desk y)) (eqb (seen X h x x) (seen X h x y)) e))),
-        (λ q. rw (eq-eqb (h .desk x) (h .desk y) (ap (h .desk) q)) (eq-eqb (seen X h x x) (seen X h x y) (ap (λ n. key X (h .row n (h .desk x))) q))),
+        (λ e. to (eqb-true _ _ (and-true-l _ _ e))
+            (eqb-true _ _ (and-true-r (eqb (h .desk x) (h .desk y)) (eqb (seen X h x x) (seen X h x y)) e))),
+        (λ q. rw (eq-eqb (h .desk x) (h .desk y) (ap (h .desk) q))
+            (eq-eqb (seen X h x x) (seen X h x y) (ap (λ n. key X (h .row n (h .desk x))) q))),
       )
     where
       both : Upto h x y → Upto h y x → x ≡ y
@@ -248,7 +251,8 @@ module _ (X : Setup) (ok : Permitted X) (b : Tables) (h : History) (g : Good X b
 
     step-compare : step line X b (compare s t)
         ≡ settle (pick (isOut (gap line X b (e .by) (e .row) (f .row)) || isOut (gap line X b (f .by) (f .row) (e .row))) 16 0) b
-        (telling b (relates (relation (gapIn (gap line X b (e .by) (e .row) (f .row))) (gapIn (gap line X b (f .by) (f .row) (e .row))) (e .by) (f .by) (e .row) (f .row))))
+        (telling b (relates (relation (gapIn (gap line X b (e .by) (e .row) (f .row))) (gapIn (gap line X b (f .by) (f .row) (e .row)))
+        (e .by) (f .by) (e .row) (f .row))))
     unfolding step reasons done
     step-compare = rw (p, q, lt-ltb s 32 (slot-of s e p .0), lt-ltb t 32 (slot-of t f q .0))
 

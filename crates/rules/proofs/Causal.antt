@@ -193,7 +193,8 @@ module _ (X : Setup) (h : Log) (c : Causal X h) (j : ℕ) (w : Kind) (r : Row) (
             (λ a. below (λ f. Upto (logged h j w r) e f → seen X (logged h j w r) e e ≤ seen X (logged h j w r) e f) (h .count) f b
             (λ b u. rw (seen-old e e a a, seen-old e f a b) (c .sound e f a b (down-to e f b u)))
             (λ u. rw (seen-old e e a a, seen-into e a) (old-new e a u)))
-            (below (λ f. Upto (logged h j w r) (h .count) f → seen X (logged h j w r) (h .count) (h .count) ≤ seen X (logged h j w r) (h .count) f) (h .count) f b
+            (below (λ f. Upto (logged h j w r) (h .count) f
+            → seen X (logged h j w r) (h .count) (h .count) ≤ seen X (logged h j w r) (h .count) f) (h .count) f b
             (λ b u. absurd (no-later f b u))
             (λ u. omega arith));
         complete =
@@ -201,8 +202,13 @@ module _ (X : Setup) (h : Log) (c : Causal X h) (j : ℕ) (w : Kind) (r : Row) (
             (λ a. below (λ f. seen X (logged h j w r) e e ≤ seen X (logged h j w r) e f → Upto (logged h j w r) e f) (h .count) f b
             (λ b k. up-to e f b (c .complete e f a b (rw (seen-old e e a a, seen-old e f a b) at k)))
             (λ k. inr (of-new e a (rw (seen-old e e a a, seen-into e a) at k))))
-            (below (λ f. seen X (logged h j w r) (h .count) (h .count) ≤ seen X (logged h j w r) (h .count) f → Upto (logged h j w r) (h .count) f) (h .count) f b
-            (λ b k. absurd (let z = fit .ahead f b in let z′ : key X (r j) ≤ key X (h .row f j) = rw (seen-new, seen-from f b) at k in omega arith))
+            (below (λ f. seen X (logged h j w r) (h .count) (h .count) ≤ seen X (logged h j w r) (h .count) f
+            → Upto (logged h j w r) (h .count) f) (h .count) f b
+            (λ b k.
+            absurd
+            (let z = fit .ahead f b in
+            let z′ : key X (r j) ≤ key X (h .row f j) = rw (seen-new, seen-from f b) at k in
+            omega arith))
             (λ k. inl refl));
         origin = λ f b. below (λ f. (k : ℕ) → Origin (logged h j w r) k ((logged h j w r) .row f k)) (h .count) f b
             (λ b k. rw (old-row f b) (origin-up k (h .row f k) (c .origin f b k)))

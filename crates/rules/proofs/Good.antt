@@ -160,7 +160,9 @@ module _ (X : Setup) (ok : Permitted X) (b : Tables) (h : History) (g : Good X b
     merged-known : (k : ℕ) → (k ≡ j → ⊥) → key X (merged line b j m k) ≤ key X (own b k)
     merged-known k ne = rw (r-other k ne) (go (at-k k .2))
       where
-        go : ((later line (phases b k) (b .seat j .row k) (m k) ≡ b .seat j .row k) ⊎ (later line (phases b k) (b .seat j .row k) (m k) ≡ m k))
+        go
+            : ((later line (phases b k) (b .seat j .row k) (m k) ≡ b .seat j .row k)
+            ⊎ (later line (phases b k) (b .seat j .row k) (m k) ≡ m k))
             → key X (later line (phases b k) (b .seat j .row k) (m k)) ≤ key X (own b k)
         go (inl z) = rw z (seat-known j k)
         go (inr z) = rw z (mail-known k)
@@ -179,13 +181,15 @@ module _ (X : Setup) (ok : Permitted X) (b : Tables) (h : History) (g : Good X b
         }
       where
         small : (k : ℕ)
-            → ((later line (phases b k) (b .seat j .row k) (m k) ≡ b .seat j .row k) ⊎ (later line (phases b k) (b .seat j .row k) (m k) ≡ m k))
+            → ((later line (phases b k) (b .seat j .row k) (m k) ≡ b .seat j .row k)
+            ⊎ (later line (phases b k) (b .seat j .row k) (m k) ≡ m k))
             → later line (phases b k) (b .seat j .row k) (m k) .clock < X .clocks
         small k (inl z) = rw z (seat-clock j k)
         small k (inr z) = rw z (m-clock k)
 
         from : (k : ℕ)
-            → ((later line (phases b k) (b .seat j .row k) (m k) ≡ b .seat j .row k) ⊎ (later line (phases b k) (b .seat j .row k) (m k) ≡ m k))
+            → ((later line (phases b k) (b .seat j .row k) (m k) ≡ b .seat j .row k)
+            ⊎ (later line (phases b k) (b .seat j .row k) (m k) ≡ m k))
             → Origin (h .log) k (later line (phases b k) (b .seat j .row k) (m k))
         from k (inl z) = rw z (seat-from j k)
         from k (inr z) = rw z (subst (λ (ρ : Row). Origin (h .log) k (ρ k)) is (g .causal .origin x lx k))
@@ -201,7 +205,8 @@ module _ (X : Setup) (ok : Permitted X) (b : Tables) (h : History) (g : Good X b
             omega arith
 
         heard : (e : ℕ) → e < h .log .count
-            → ((later line (phases b (h .log .desk e)) (b .seat j .row (h .log .desk e)) (m (h .log .desk e)) ≡ b .seat j .row (h .log .desk e))
+            → ((later line (phases b (h .log .desk e)) (b .seat j .row (h .log .desk e)) (m (h .log .desk e))
+            ≡ b .seat j .row (h .log .desk e))
             ⊎ (later line (phases b (h .log .desk e)) (b .seat j .row (h .log .desk e)) (m (h .log .desk e)) ≡ m (h .log .desk e)))
             → seen X (h .log) e e ≤ key X (later line (phases b (h .log .desk e)) (b .seat j .row (h .log .desk e)) (m (h .log .desk e)))
             → (v : ℕ) × (v < h .log .count) × Upto (h .log) e v × ((h .log .desk v ≡ j) ⊎ (some x ≡ some v))
@@ -298,7 +303,8 @@ module _ (X : Setup) (ok : Permitted X) (b : Tables) (h : History) (g : Good X b
       let fit = merging j (h .mailed p) (rowIn (b .mail p)) (n .0) (m .0) (m .1) near (n .2) in
       let less = merged-known j (h .mailed p) (rowIn (b .mail p)) (n .0) (m .0) (m .1) near in
       good-event j (Receive (h .mailed p)) (merged line b j (rowIn (b .mail p))) fit less (put (b .mail) p none) (h .mailed) bd
-      (put-all (λ q (o : Option Held). Each (Behind (logged (h .log) j (Receive (h .mailed p)) (merged line b j (rowIn (b .mail p)))) (h .mailed q)) o) (b .mail) p none tt
+      (put-all (λ q (o : Option Held).
+      Each (Behind (logged (h .log) j (Receive (h .mailed p)) (merged line b j (rowIn (b .mail p)))) (h .mailed q)) o) (b .mail) p none tt
       (λ q ne. behind-up j (Receive (h .mailed p)) (merged line b j (rowIn (b .mail p))) fit less (h .mailed q) (b .mail q) (g .mail q)))
   good-done (reset j) e bd =
       let l = ok .clocks in

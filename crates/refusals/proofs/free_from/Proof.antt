@@ -27,7 +27,8 @@ returns c =
     let h = c .before .before .before in
     let x = h .before .before .args in
     sym
-    (lowest-at 32 (λ p. not (used (heldAt (x .book .now) (x .a) p))) (h .loop .p) (omega arith) (h .loop .inv .1) (ap not (sym (c .before .is-used .ensures ∙ used-held (x .book .now) (x .a) (h .loop .p) (omega arith))) ∙ c .if1 .taken))
+    (lowest-at 32 (λ p. not (used (heldAt (x .book .now) (x .a) p))) (h .loop .p) (omega arith) (h .loop .inv .1)
+    (ap not (sym (c .before .is-used .ensures ∙ used-held (x .book .now) (x .a) (h .loop .p) (omega arith))) ∙ c .if1 .taken))
 
 loop-again : tie.Need-loop-again Inv-loop μ-loop
 loop-again c =

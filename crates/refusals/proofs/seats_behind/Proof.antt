@@ -35,7 +35,8 @@ returns c =
     let h = c .before .before .before in
     let e = h .loop .inv .2 in
     sym
-    (any-at (byte (h .before .before .before .args .book .now) 2) _ (h .loop .k) (omega arith) (sym (c .before .seat-lags .ensures) ∙ c .if1 .taken))
+    (any-at (byte (h .before .before .before .args .book .now) 2) _ (h .loop .k) (omega arith)
+    (sym (c .before .seat-lags .ensures) ∙ c .if1 .taken))
 
 loop-again : tie.Need-loop-again Inv-loop μ-loop
 loop-again c =
