@@ -16,17 +16,24 @@ Inv-loop book₀ piece out₀ t₀ at₀ book out t at =
 abbrev μ-loop : tie.MeasureT-loop
 μ-loop book₀ piece out₀ t₀ at₀ book out t at = length piece - at
 
+-- the places behind a feed
+abbrev fed : tie.After-struct-known Inv-loop μ-loop → tie.After-feed Inv-loop μ-loop
+fed c = c .before .before .before .before .before
+
+abbrev turn : tie.After-struct-known Inv-loop μ-loop → tie.In-loop Inv-loop μ-loop
+turn c = fed c .before .before .before .before .before .before
+
+abbrev entry : tie.After-struct-known Inv-loop μ-loop → tie.Start Inv-loop μ-loop
+entry c = turn c .before .before .before .before .before
+
 -- some bytes are taken in, and they lie within the piece
 taken
     : (c : tie.After-struct-known Inv-loop μ-loop)
-    → (0 < c .before .before .before .before .before .feed .result .used)
-    ×
-    (c .before .before .before .before .before .before .before .before .before .before .before .before .loop .at + c .before .before .before .before .before .feed .result .used ≤ length (c .before .before .before .before .before .before .before .before .before .before .before .before .before .before .before .before .args .piece .now))
+    → (0 < fed c .feed .result .used)
+    × (turn c .before .loop .at + fed c .feed .result .used ≤ length (entry c .args .piece .now))
 taken c =
-    let f = c .before .before .before .before .before .feed .ensures .1 in
-    let h = c .before .before .before .before .before .before .before .before .before .before .before .before .loop in
-    let xs = c .before .before .before .before .before .before .before .before .before .before .before .before .before .before .before .before .args .piece .now in
-    let l : h .at < length xs = omega arith in (
+    let f = fed c .feed .ensures .1 in
+    let l : turn c .before .loop .at < length (entry c .args .piece .now) = omega arith in (
       f .1 (simp (length-take, length-drop) (omega arith)),
       omega (arith, simp (length-take, length-drop) at (f .0 .within)),
     )
@@ -42,11 +49,7 @@ feed-requires c κs = (c .before .before .before .before .before .before .loop .
 
 add-at : tie.Need-add-at Inv-loop μ-loop
 add-at c =
-    omega (
-      arith,
-      c .before .before .before .before .before .before .before .before .before .before .before .before .before .before .before .before .good,
-      taken c,
-    )
+    omega (arith, entry c .good, taken c)
 
 slice-aggregate-write-all : tie.Need-slice-aggregate-write-all Inv-loop μ-loop
 slice-aggregate-write-all c = simp length-take (omega arith)

@@ -55,7 +55,8 @@ returns-3 : tie.Need-returns-3
 returns-3 c =
     let r = c .before .before .before .read2 in
     let a = c .before .before .before .before in
-    (λ out. rw (permit (a .before .before .before .before .before), one a, none-read _ _ _ _ (r .ensures .0) _ (c .enum-told2 .given .1)), omega arith)
+    let p = permit (a .before .before .before .before .before) in
+    (λ out. rw (p, one a, none-read _ _ _ _ (r .ensures .0) _ (c .enum-told2 .given .1)), omega arith)
 
 way-requires : tie.Need-way-requires
 way-requires c κs = way-asks _ _ _ _ _ _ _ (both c)
