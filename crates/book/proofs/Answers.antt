@@ -52,9 +52,6 @@ whole-sound b w = holds-sound (b .setup) (w .setup) (b .tables) (w .tables) (enc
 pub whole-decode : (b : Book) → Whole b → decode (encode b) ≡ b
 whole-decode b w = decode-encode (b .setup) (permitted (b .setup) (w .setup)) (b .tables) (w .tables)
 
-pub sound-whole : (s : List ℕ) → sound s ≡ true → Whole (decode s)
-sound-whole s h = record { setup = sound-setup s h; tables = sound-fits s h }
-
 -- every act on a sound book, accepted or not, ends with a whole book
 act-whole : (s : List ℕ) → sound s ≡ true → (c : Act) → Whole (turnOn s (on c) .book)
 unfolding call

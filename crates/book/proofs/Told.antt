@@ -23,9 +23,6 @@ read-at r j l = rw (lt-ltb j 8 l)
 pub own-at : (s : List ℕ) (j : ℕ) → j < 8 → own (tablesOf s) j ≡ rowAt s j j
 own-at s j l = ap (λ (r : Row). r j) (seat-row s j l) ∙ read-at (rowAt s j) j l
 
-pub mail-at : (s : List ℕ) (p : ℕ) → p < 32 → tablesOf s .mail p ≡ readHeld (fields s .at (8 + p))
-mail-at s p l = rw (lt-ltb p 32 l)
-
 pub slot-at : (s : List ℕ) (p : ℕ) → p < 32 → tablesOf s .shelf p ≡ readHeld (fields s .at (40 + p))
 slot-at s p l = rw (lt-ltb p 32 l)
 

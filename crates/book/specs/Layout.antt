@@ -3,10 +3,14 @@
 --   Record           the two tags and the row of a record; 0..7 are seats, 8..39 mail places, 40..71 shelf slots
 --   Fields           the setup and the records
 --   spot k c         where byte c of record k stands
+--   headByte X i     byte i of the header of a book with the setup X
 --   mark0, mark1     the mark of a record
 --   markedByte x y r c   byte c of a record of twenty bytes: the mark x, y, then the tags and the row of r
 --   recordByte k r c byte c of record k, whose tags and row are r
+--   byteOf f i       byte i of the fields f: in the header, or in its record
 --   layout f         the bytes of the fields f
+--   setupOf b        the setup that the bytes b tell
+--   rowAt b k        the row that the bytes b tell in record k
 --   fields b         the fields of the bytes b
 --   Holds f b        the bytes b are those of the fields f
 --   post b k x y row the bytes b with the tags x and y and the row bytes in record k

@@ -1,9 +1,15 @@
 -- When the bytes of a book are sound, clause by clause.
 -- Assumes nothing.
 --   pairOk X B o j q   the pair q for desk j is in range and lags at most B behind o; zero where there is no desk j
+--   columnOk f B k j   so is the pair for desk j in record k, o the own phase of j
 --   rowOk f B k        so is every pair of the row of record k
+--   columnZero f k j   the pair for desk j in record k is zero
 --   rowZero f k        the row of record k is all zero
---   seatOk, mailOk, slotOk, recordOk   what is asked of record k
+--   seatRest f k       the seat k has not started and its row is zero, or it is a desk's
+--   seatNear f k       the pairs of a desk's seat lag at most M
+--   seatOk, mailOk, slotOk   what is asked of record k where it is a seat, a mail place, a slot
+--   recordOk f k       what is asked of record k, by its number
+--   spareZero b i      byte i of the header's filler is 0
 --   headOk b           the header's mark and its filler
 --   recordSound b k    the mark of record k, and what is asked of it
 --   sound b            the bytes are those of a sound book

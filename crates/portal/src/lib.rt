@@ -250,7 +250,7 @@ pub fn keep(book: &mut [u8], desk: usize) -> Kept
     Kept::Slot(s as u8)
 }
 
-// A used place or slot is freed; a is the record of the first.
+// Drop and discard: a used slot or place is freed, any other refused; a is the record of the first.
 fn free(book: &mut [u8], a: usize, p: usize) -> u8
     requires { ⌜ a ≤ 40 ⌝ }
     ensures { λ r. ⌜ r ≡ usedNumber (now (book .entry)) a p ⌝ }

@@ -13,7 +13,7 @@ use Rattle.rules.specs.History.{State, begin, next, after}
 use Rattle.rules.specs.Round.{roundAnswer, roundBook, roundTurn}
 use Rattle.rules.specs.Runs.{run, left, roundRun, numbers}
 use Rattle.rules.proofs.Sim.{step-ring, fresh-round}
-use Rattle.rules.proofs.Runs.{startTurn, Faithful, allowed, faithful-begin, faithful-next, faithful-run, left-line}
+use Rattle.rules.proofs.Runs.{startTurn, Faithful, allowed, faithful-begin, faithful-next, left-line}
 
 pub fresh-alike : (X : Setup) → freshBook X ≡ roundBook (freshBook X)
 fresh-alike X = λ i. record { setup = X; tables = sym (fresh-round (X .phases)) i }
@@ -71,8 +71,3 @@ module _ (X : Setup) (fair : permits X ≡ true) (cs : List Call) where
   -- the same, of the state with its history
   pub ring-book : left ringOf (freshBook X) cs ≡ roundBook (after (begin X) cs .book)
   ring-book = same-books ∙ ap roundBook (left-line (begin X) cs)
-
-  -- The next call, whichever it is: the ring's turn is the line's, come round.
-  pub alike-next : (c : Call)
-      → call ringOf (left ringOf (freshBook X) cs) c ≡ roundTurn (after (begin X) cs .book) (call lineOf (after (begin X) cs .book) c)
-  alike-next c = ap (λ b. call ringOf b c) ring-book ∙ call-alike (after (begin X) cs) (faithful-run X fair cs) c

@@ -3,7 +3,7 @@
 use mathlib.Core.Path.{_≡_, refl, ap, sym, subst, fun-ext}
 use mathlib.Core.Bool.{Bool, true, false, not, _&&_, _||_}
 use mathlib.Core.Option.{Option, none, some}
-use Prim.Native.Nat.{ℕ, zero, suc, _+_, _-_, _*_, _≤_, _<_}
+use Prim.Native.Nat.{ℕ, _+_, _-_, _*_, _≤_, _<_}
 use native.Mathlib.Omega.{arith}
 use lib.Dec.{ltb, eqb}
 use borrow.Author.Tests.{eqb-false, ne-eqb, ltb-true}
@@ -14,8 +14,8 @@ use Rattle.rules.specs.declared.Setup.{Setup}
 use Rattle.tools.specs.Tests.{pick, any}
 use Rattle.tools.specs.Tables.{put}
 use Rattle.rules.specs.Model.{Row, Seat, Held, Tables, Act, local, reset, keep, drop, discard, show, send, receive, before, compare}
-use Rattle.rules.specs.Model.{write, step, done, reasons, why, fresh, grown, merged, turned, seated, freeMail, freeSlot, rowIn, used}
-use Rattle.rules.specs.Model.{toIn, own, lags, seatLags, tick, turn, settle}
+use Rattle.rules.specs.Model.{write, done, reasons, why, fresh, grown, merged, turned, seated, freeMail, freeSlot, rowIn, used}
+use Rattle.rules.specs.Model.{toIn, own, lags, seatLags, tick, turn}
 use Rattle.tools.specs.Tables.{Each}
 use Rattle.tools.proofs.Tests.{any-false, not-off, and-true-l, and-true-r, or-false-l, or-false-r}
 use Rattle.tools.proofs.Tables.{put-all, put-both, put-same}
@@ -250,11 +250,3 @@ module _ (X : Setup) (ok : Permitted X) (b : Tables) (w : Bounded X b) where
   bounded-done (compare s t) e = w
   bounded-done (show s) e = w
   bounded-done (write s room) e = w
-
-  pub bounded-step : (c : Act) → Bounded X ((step line X b c) .tables)
-  unfolding step
-  bounded-step c = go (why line X b c) refl
-    where
-      go : (n : ℕ) → why line X b c ≡ n → Bounded X ((settle n b (done line X b c)) .tables)
-      go zero e = bounded-done c e
-      go (suc n) e = w

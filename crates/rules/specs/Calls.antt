@@ -4,6 +4,9 @@
 --   Book         a setup and its tables
 --   Call         start, or an act on the book that is there
 --   Turn         what a call answers, and the book that it leaves
+--   freshBook X  the book that a start with the setup X writes
+--   settled n b t     the turn t where the number n is 0; else the refusal n, and the book b as it was
+--   turnOf X r   the turn of an act's result r on a book with the setup X
 --   reasonsOf Z b c   when which number is given to the call c
 --   call Z b c   the turn of the call c on the book b
 use mathlib.Core.Bool.{not}

@@ -1,8 +1,11 @@
 -- Tables that a sound book can hold: what document 01 asks of the numbers in seats, mail places and slots.
 -- Assumes nothing.
 --   phases b k          the own phase of desk k
+--   InRange X o B q     the pair q is in range and lags at most B behind o
 --   PairFits X o B k q  the pair q for desk k is in range and lags at most B behind o, or zero where there is no desk k
 --   RowFits X o B r     every pair of the row r fits, o the own phase of each desk
+--   MailFits X o p w    the mail w may wait in place p: from one desk to another, its row lagging at most 2M
+--   SlotFits X o s w    the stamp w may be kept in slot s: of a desk, its row lagging at most A
 --   FitsAt X o b        the tables b fit, o the own phase of each desk
 --   Fits X b            the tables b fit
 use Prim.Native.Nat.{ℕ, _*_, _≤_, _<_}

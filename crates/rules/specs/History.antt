@@ -1,11 +1,18 @@
 -- The run on the line with its history: the accepted events, and the event behind each place, slot and seat.
 -- Assumes nothing.
 --   Kind           which of the four events; a receive with the number of its send
+--   cause w        the send that a receive takes in
 --   Log            the accepted events since the last accepted start, numbered from 0
 --   History        a log, and the event behind each mail place, each slot and each started seat
+--   none-yet       the history after a start
 --   Link, Leads    a link from event to event; a chain of links
---   adds X h b c   the history after an accepted act
+--   logged h j w r the log with one more event: at desk j, of kind w, which leaves row r
+--   noted          the history with that event, and the mail's events as given
+--   adds h b c     the history after an accepted act
+--   kept-if n h h′ h′ where the number n is 0, else h: a refused call leaves the history as it was
 --   State          a book of the line with its history
+--   begin X        the state after a start with the setup X
+--   history-of s c what an accepted call makes of the history
 --   next s c       the state after a call; after s cs, after a list of calls
 --   logAfter X cs  the log of the calls cs, from a fresh book of X on; setupAfter X cs, the setup then
 use mathlib.Core.Path.{_≡_}

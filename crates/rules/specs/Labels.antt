@@ -2,12 +2,17 @@
 -- Assumes nothing.
 --   Label               a stamp: its owner and its row
 --   gapOff X j e f      the difference from e to f at desk j that two phases of a ring show, none beyond reach
---   gapRead X e f       the same of two records; none where one does not read
+--   reads, ownerIn, rowRead   of a record as it reads: whether it does, its owner, its row; 0 and zeros where it does not
+--   gapRead X e f       the same of two records as they read, at the first one's owner
 --   reasonsOff X e f out   when which number is given, of two records as they read; out: the question is out of reach
+--   whyOff X e f out    the smallest number that is due, 0 where the question is answered
+--   settleOff n v       the value v where the number n is 0, else the refusal n
 --   beforeOff X e f     the answer to before, of two records as they read
 --   compareOff X e f    the answer to compare
 --   Which               one of two lent records, or neither
---   newestOff X e f     the record that is after the other; the first if they are the same
+--   newer r             the one that is after the other by the relation r; the first if they are the same
+--   newestBy v          the same by a value that is a relation; neither by any other
+--   newestOff X e f     the record that is after the other; neither where compare is refused
 use mathlib.Core.Bool.{Bool, true, false, not, _||_}
 use mathlib.Core.Option.{Option, none, some}
 use mathlib.Core.List.{List, [], _∷_}

@@ -6,6 +6,8 @@
 --   Act              a call on a book that is already there
 --   Value            what goes with the number 0
 --   Answer           a number of the answer table, and the value that goes with it
+--   refusal, accepted   the answer with a number and no value; with 0 and a value
+--   Result           what an act answers, and the tables that it leaves
 --   used, rowIn, byIn, toIn   of a place or slot: whether it is used, its row, its sender or owner, its addressee
 --   zeros, idle, fresh        a row of zeros, a seat not started, the tables of a fresh book
 --   own b k          desk k's pair in its own seat
@@ -14,9 +16,19 @@
 --   tick, turn       a pair after local, send or receive; after a reset
 --   grown, merged, turned   a desk's row after local and send; after receive; after reset
 --   near X d         d where it is within reach
+--   isOut o, gapIn o whether there is no difference within reach; the difference, 0 where there is none
+--   sameBy d c c′    no difference, and the same clock
 --   isBefore         whether the stamp of the first owner is before that of the second
 --   relation         how the first of two stamps stands to the second
---   gapHeld          the difference between two slots by their lags, none where it is out of reach or a slot is free
+--   noDesk, noMail, noSlot   there is no such desk; no used mail place, no used slot of that number
+--   atLimit X b j    desk j's own clock is at its last value
+--   lags, seatLags   what is held, the seat of another desk, lags just so far at desk j
+--   gap Z X b j e f  the difference from e to f at desk j by their lags, none where it is out of reach
+--   gapHeld          the same between two slots, none where one is free; gapFrom, by their numbers
+--   seated b j r     the seats with row r in j's, started
+--   event            an event at j that leaves row r there, with the mail as given
+--   filing, telling  an act that changes the mail or the shelf alone; one that changes nothing
+--   settle n b r     the result r where the number n is 0; else the refusal n, and the tables b as they were
 --   reasons Z X b c  when which number is given to the act c, in ascending order
 --   why Z X b c      the smallest number that is due, 0 where the act is accepted
 --   done Z X b c     what an accepted act answers and leaves

@@ -1,8 +1,12 @@
 -- A map of phases, desk by desk, in rows, tables and answers; the coming round is one.
 -- Assumes nothing.
 --   φ k v                what the phase v of desk k becomes
---   mapRow φ r, ..       the row r, .., with every phase mapped
---   roundRow P r, ..     the same with phases come round on a ring of P
+--   mapPair, mapRow, mapSeat, mapHeld, mapTables   a pair, a row, a seat, what is held, the tables, with every phase mapped
+--   mapValue, mapAnswer, mapResult   a value, an answer, a result, with every phase mapped
+--   modulo P             the map that is the coming round on a ring of P
+--   roundRow, roundTables, roundResult, roundAnswer   the same with phases come round on a ring of P
+--   roundBook b          the book b come round on the ring of its setup
+--   roundTurn b t        the turn t of a call on the book b, come round
 use Prim.Native.Nat.{ℕ, _%_}
 use mathlib.Core.Option.{Option, none, some}
 use Rattle.ring.specs.Phases.{Pair}

@@ -3,8 +3,10 @@
 --   labelOf w          the stamp that a used slot holds: its owner and its row
 --   StampOf X h x e    e is the stamp of the event x, its phases come round
 --   slotOf c           the slot that show or write is asked of
+--   ownerAt b o        the owner of the stamp in that slot
 --   stampIn o v        the stamp in a value; o is the owner of a row that stands alone, as show answers it
 --   stampGiven b c     the stamp that the ring answers to the act c on the book b
+--   eventAt h o        the event behind the slot o, or where there is none the next one of the history h
 --   eventOf h c        the event of that stamp: the one that c adds to the history h, or the one behind the slot
 --   Ongoing cs         no start among the calls cs is accepted
 --   Answered X cs e x  the calls cs, from a fresh book of X on, answer the stamp e of event x, and then accept no start

@@ -246,9 +246,6 @@ module _ (A : Answers) (blind : Blind A) where
       (simp length-take (λ h. omega arith)) in
       rw (lastText, e, blind .says (s .book) (s .line))
 
-  cut-twice : (s : State) → cut (cut s) ≡ cut s
-  cut-twice s = rw (take-take most most (s .line) (omega arith))
-
   runs-cut : (s : State) (ps : List (List ℕ)) → runs A (cut s) ps ≡ textOf A s (flatten ps) ++ lastText A (after A s (flatten ps))
   unfolding runs flatten textOf after
   runs-cut s [] = last-cut s
