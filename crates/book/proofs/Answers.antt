@@ -11,9 +11,9 @@ use Rattle.rules.specs.declared.Setup.{Setup}
 use Rattle.rules.specs.Setups.{permits}
 use Rattle.rules.specs.Model.{Act, fresh, Answer, refusal}
 use Rattle.rules.specs.Calls.{Book, Call, start, on, Turn, ringOf, settled, call}
-use Rattle.rules.specs.Fits.{Fits}
+use Rattle.book.specs.Fits.{Fits}
 use Rattle.rules.proofs.Setups.{permitted}
-use Rattle.rules.proofs.Fits.{fresh-fits, step-fits}
+use Rattle.book.proofs.Fits.{fresh-fits, step-fits}
 use Rattle.rules.proofs.Steps.{step-refused}
 use Rattle.book.specs.Layout.{fields, setupOf}
 use Rattle.book.specs.Sound.{sound}

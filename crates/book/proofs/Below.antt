@@ -12,7 +12,8 @@ use Rattle.tools.specs.Lists.{byte}
 use Rattle.tools.proofs.Tests.{lt-or-le}
 use Rattle.ring.specs.Phases.{Pair}
 use Rattle.rules.specs.Model.{Row, Seat, Held, rowIn}
-use Rattle.rules.specs.Fits.{phases, RowFits, MailFits, SlotFits, Fits}
+use Rattle.rules.specs.Model.{phases}
+use Rattle.book.specs.Fits.{RowFits, MailFits, SlotFits, Fits}
 use Rattle.rules.proofs.Setups.{permitted}
 use Rattle.book.specs.Layout.{Record, spot, rowAt, setupOf}
 use Rattle.book.specs.Sound.{sound}

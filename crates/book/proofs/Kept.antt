@@ -18,7 +18,8 @@ use Rattle.ring.specs.Phases.{Pair, lagOf}
 use Rattle.rules.specs.declared.Setup.{Setup}
 use Rattle.rules.specs.Setups.{permits}
 use Rattle.rules.specs.Model.{Row, Seat, Held, Tables, rowIn, zeros}
-use Rattle.rules.specs.Fits.{phases, PairFits, RowFits, MailFits, SlotFits, Fits}
+use Rattle.rules.specs.Model.{phases}
+use Rattle.book.specs.Fits.{PairFits, RowFits, MailFits, SlotFits, Fits}
 use Rattle.book.specs.Layout.{Record, Fields, fields, setupOf, rowAt, spot, mark0, mark1, headByte, markedByte, Holds}
 use Rattle.book.specs.Sound.{pairOk, columnOk, rowOk, columnZero, rowZero, seatRest, seatNear, seatOk, mailOk, slotOk, recordOk}
 use Rattle.book.specs.Sound.{spareZero, headOk, recordSound, sound}

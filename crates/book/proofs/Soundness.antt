@@ -17,7 +17,8 @@ use Rattle.ring.specs.Phases.{Pair, lagOf}
 use Rattle.rules.specs.declared.Setup.{Setup}
 use Rattle.rules.specs.Setups.{permits}
 use Rattle.rules.specs.Model.{Held, zeros, idle}
-use Rattle.rules.specs.Fits.{phases, PairFits, RowFits, MailFits, SlotFits, Fits}
+use Rattle.rules.specs.Model.{phases}
+use Rattle.book.specs.Fits.{PairFits, RowFits, MailFits, SlotFits, Fits}
 use Rattle.rules.proofs.Setups.{permitted}
 use Rattle.book.specs.Layout.{Fields, fields, setupOf, spot, mark0, mark1, headByte, Holds}
 use Rattle.book.specs.Sound.{pairOk, columnOk, rowOk, columnZero, rowZero, seatRest, seatNear, seatOk, mailOk, slotOk, recordOk}

@@ -2,6 +2,7 @@
 pub mod Layout
 pub mod Sound
 pub mod Codec
+pub mod Fits
 pub mod Stamps
 pub mod Answers
 pub mod Numbers

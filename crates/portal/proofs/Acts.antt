@@ -21,7 +21,7 @@ use Rattle.rules.specs.Model.{Row, Held, Tables, Act, local, send, receive, res
 use Rattle.rules.specs.Model.{Result, reasons, done, own, event, freeMail, freeSlot, used, sent, slot}
 use Rattle.rules.specs.Calls.{on, ringOf}
 use Rattle.rules.specs.Replies.{rowBytes, rowOf, stampedSays, postedSays, keptSays, blank, Beside, BesidePost}
-use Rattle.rules.proofs.Bounded.{no-local, no-send, no-receive, no-reset, no-keep}
+use Rattle.rules.proofs.Accepted.{no-local, no-send, no-receive, no-reset, no-keep}
 use Rattle.book.specs.Layout.{setupOf, rowAt, Holds, post}
 use Rattle.book.specs.Sound.{sound}
 use Rattle.book.specs.Codec.{write}

@@ -9,10 +9,10 @@ use Rattle.rules.specs.declared.Relation.{Relation}
 use Rattle.rules.specs.declared.Relation.the-variants.{Crossed}
 use Rattle.rules.specs.Model.{before, compare, used, relates}
 use Rattle.rules.specs.Calls.{Book, Call, start, on}
-use Rattle.rules.specs.History.{State, begin, next, after, logAfter, setupAfter}
-use Rattle.rules.specs.Round.{roundBook}
-use Rattle.rules.specs.Demand.{Stands, BeforeIs, CompareIs}
-use Rattle.rules.proofs.Shelf.{state-before, state-compare, compare-words}
+use Rattle.history.specs.History.{State, begin, next, after, logAfter, setupAfter}
+use Rattle.history.specs.Round.{roundBook}
+use Rattle.history.specs.Demand.{Stands, BeforeIs, CompareIs}
+use Rattle.history.proofs.Shelf.{state-before, state-compare, compare-words}
 use Rattle.book.specs.Sound.{sound}
 use Rattle.book.specs.Codec.{decode, encode}
 use Rattle.book.specs.Answers.{answerTo, bookAfter}

@@ -18,21 +18,21 @@ use Rattle.rules.specs.declared.Setup.{Setup}
 use Rattle.rules.specs.Model.{Row, Seat, Held, Tables, Act, local, reset, keep, drop, discard, show, send, receive, before, compare, write}
 use Rattle.rules.specs.Model.{Answer, byIn, rowIn, used, why, done, step, settle}
 use Rattle.rules.specs.Labels.{Label, newestOff}
-use Rattle.rules.specs.Fits.{PairFits, RowFits, SlotFits, Fits}
+use Rattle.book.specs.Fits.{PairFits, RowFits, SlotFits, Fits}
 use Rattle.rules.specs.Setups.{permits}
 use Rattle.rules.specs.Calls.{Book, Call, start, on, call}
-use Rattle.rules.specs.History.{State, begin, next, after, logAfter, setupAfter}
-use Rattle.rules.specs.Round.{roundBook}
-use Rattle.rules.specs.Stamps.{labelOf, slotOf, ownerAt, stampIn, stampGiven, Answered}
-use Rattle.rules.specs.Demand.{InReach, BeforeSaid, CompareSaid}
-use Rattle.rules.proofs.Labels.{off-before, off-compare, off-newest}
-use Rattle.rules.proofs.Agree.{state-agree-before, state-agree-compare}
-use Rattle.rules.proofs.Alike.{ring-book}
+use Rattle.history.specs.History.{State, begin, next, after, logAfter, setupAfter}
+use Rattle.history.specs.Round.{roundBook}
+use Rattle.history.specs.Stamps.{labelOf, slotOf, ownerAt, stampIn, stampGiven, Answered}
+use Rattle.history.specs.Demand.{InReach, BeforeSaid, CompareSaid}
+use Rattle.history.proofs.Labels.{off-before, off-compare, off-newest}
+use Rattle.history.proofs.Agree.{state-agree-before, state-agree-compare}
+use Rattle.history.proofs.Alike.{ring-book}
 use Rattle.rules.proofs.Setups.{Permitted, permitted}
-use Rattle.rules.proofs.Runs.{after-append}
-use Rattle.rules.proofs.Stamps.{next-setup, setup-stays}
-use Rattle.rules.proofs.Bounded.{no-local, no-send, no-receive, no-reset, no-show, no-write}
-use Rattle.rules.proofs.Fits.{done-fits}
+use Rattle.history.proofs.Runs.{after-append}
+use Rattle.history.proofs.Stamps.{next-setup, setup-stays}
+use Rattle.rules.proofs.Accepted.{no-local, no-send, no-receive, no-reset, no-show, no-write}
+use Rattle.book.proofs.Fits.{done-fits}
 use Rattle.book.specs.Codec.{decode}
 use Rattle.book.specs.Stamps.{pairReads, writeStamp, readStamp, filled}
 use Rattle.labels.specs.Records.{Readable}

@@ -11,8 +11,8 @@ use Rattle.rules.specs.declared.Setup.{Setup}
 use Rattle.rules.specs.Setups.{permits}
 use Rattle.rules.specs.Model.{Answer}
 use Rattle.rules.specs.Calls.{Book, Call, start, Turn, ringOf, call}
-use Rattle.rules.specs.Runs.{run}
-use Rattle.rules.proofs.Cases.{cases}
+use Rattle.history.specs.Runs.{run}
+use Rattle.cases.proofs.Cases.{cases}
 use Rattle.book.specs.Sound.{sound}
 use Rattle.book.specs.Codec.{decode}
 use Rattle.book.specs.Answers.{admits, turnOn, bookAfter}

@@ -11,10 +11,10 @@ use Rattle.tools.specs.Tests.{pick}
 use Rattle.rules.specs.declared.Setup.{Setup}
 use Rattle.rules.specs.Model.{refusal}
 use Rattle.rules.specs.Calls.{Call, start, on, Turn, ringOf, lineOf, call}
-use Rattle.rules.specs.History.{State, begin, next, after}
-use Rattle.rules.specs.Round.{roundBook, roundTurn, roundAnswer}
-use Rattle.rules.proofs.Runs.{Faithful, faithful-begin, faithful-next, started}
-use Rattle.rules.proofs.Alike.{call-alike, fresh-alike}
+use Rattle.history.specs.History.{State, begin, next, after}
+use Rattle.history.specs.Round.{roundBook, roundTurn, roundAnswer}
+use Rattle.history.proofs.Runs.{Faithful, faithful-begin, faithful-next, started}
+use Rattle.history.proofs.Alike.{call-alike, fresh-alike}
 use Rattle.book.specs.Sound.{sound}
 use Rattle.book.specs.Codec.{decode}
 use Rattle.book.specs.Answers.{admits, turnOn, answerTo, bookAfter}

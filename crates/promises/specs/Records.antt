@@ -12,10 +12,10 @@ use Rattle.rules.specs.declared.Setup.{Setup}
 use Rattle.rules.specs.Model.{Act}
 use Rattle.rules.specs.Calls.{Call, start, on}
 use Rattle.rules.specs.Labels.{Label, Which}
-use Rattle.rules.specs.History.{Log, begin, after, setupAfter}
-use Rattle.rules.specs.Stamps.{slotOf, ownerAt, stampIn, eventOf, Ongoing}
+use Rattle.history.specs.History.{Log, begin, after, setupAfter}
+use Rattle.history.specs.Stamps.{slotOf, ownerAt, stampIn, eventOf, Ongoing}
 use Rattle.book.specs.Codec.{decode}
-use Rattle.rules.specs.Demand.{Newer}
+use Rattle.history.specs.Demand.{Newer}
 use Rattle.book.specs.Stamps.{writeStamp}
 use Rattle.book.specs.Answers.{answerTo, bookAfter}
 use Rattle.labels.specs.Records.{newestPart, newestOf}

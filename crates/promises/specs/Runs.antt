@@ -8,8 +8,8 @@ use Prim.Native.Nat.{ℕ}
 use mathlib.Core.List.{List, [], _∷_}
 use Rattle.rules.specs.Model.{Answer}
 use Rattle.rules.specs.Calls.{Call, lineOf, call}
-use Rattle.rules.specs.History.{State, next}
-use Rattle.rules.specs.Round.{roundAnswer}
+use Rattle.history.specs.History.{State, next}
+use Rattle.history.specs.Round.{roundAnswer}
 use Rattle.book.specs.Answers.{answerTo, bookAfter}
 
 unfoldable pub bytesAfter : List ℕ → List Call → List ℕ

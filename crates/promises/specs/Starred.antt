@@ -11,8 +11,8 @@ use Rattle.rules.specs.declared.Setup.{Setup}
 use Rattle.rules.specs.Setups.{permits}
 use Rattle.rules.specs.Model.{fresh, grown}
 use Rattle.rules.specs.Calls.{Call, start, Turn, ringOf}
-use Rattle.rules.specs.Runs.{run}
-use Rattle.rules.specs.Cases.{Cases}
+use Rattle.history.specs.Runs.{run}
+use Rattle.cases.specs.Cases.{Cases}
 use Rattle.book.specs.Codec.{decode}
 use Rattle.book.specs.Stamps.{writeStamp}
 use Rattle.promises.specs.Runs.{answersOn}

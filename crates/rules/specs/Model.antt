@@ -10,7 +10,7 @@
 --   Result           what an act answers, and the tables that it leaves
 --   used, rowIn, byIn, toIn   of a place or slot: whether it is used, its row, its sender or owner, its addressee
 --   zeros, idle, fresh        a row of zeros, a seat not started, the tables of a fresh book
---   own b k          desk k's pair in its own seat
+--   own b k          desk k's pair in its own seat; phases b k, its phase
 --   limit X k        the clock values of desk k: 0 up to it, it left out
 --   freeMail b       the lowest free mail place, 32 where there is none; freeSlot likewise
 --   tick, turn       a pair after local, send or receive; after a reset
@@ -136,6 +136,9 @@ fresh = record { seat = λ j. idle; mail = λ p. none; shelf = λ s. none }
 
 abbrev pub own : Tables → ℕ → Pair
 own b k = b .seat k .row k
+
+abbrev pub phases : Tables → ℕ → ℕ
+phases b k = own b k .phase
 
 abbrev pub limit : Setup → ℕ → ℕ
 limit X k = X .clocks

@@ -1,0 +1,2 @@
+-- Every case is answered as its lines say.
+pub mod Cases

@@ -1,0 +1,262 @@
+-- The starred cases of document 01 that need no bytes, its listing, and a run for each error that the desks would make.
+-- Assumes nothing.
+--   setupWith P A     the setup of the cases with a ring of P, and kept stamps that may lag A; X, that with 5 and 4
+--   narrow, small     two desks that may lag one phase, as in the listing; the same with clocks and a reach to spare
+--   pair v t          the pair v.t
+--   Shown             a value as the listing shows it
+--   pairs k n r       n pairs of the row r, from desk k on
+--   shown D v         the value v as the listing shows it, its rows as D pairs
+--   Line              a number, and what is shown with it
+--   told v, refused w an accepted line that shows v; the line of a refusal by its name
+--   Case              calls one after another, and the lines that answer them
+--   turnLine t        the line of a turn
+--   answers b c       what the ring answers to the calls of the case c, from the book b on
+--   opened X cs ls    the case of the calls cs after an accepted start
+--   starred           the cases of calls, by their numbers
+--   listing           the example of document 01
+--   told-by p         desk 0 resets and tells desk 1 of it by the place p
+--   told-lines p v t  the lines of that: v desk 0's new phase, t the clock of desk 1
+--   errors            a run for each error that the desks would make
+--   all               all of these
+--   laterOf own       the later of phases 4 and 0 in either order, on a ring of 5, at that own phase
+--   apart up down     a difference within reach
+--   stampAt v         a stamp of desk 0 with the phase v
+--   Cases             the one statement: every case is answered as its lines say, whatever book it begins on
+use mathlib.Core.Path.{_≡_}
+use mathlib.Core.Bool.{Bool, false}
+use mathlib.Core.Option.{Option, none, some}
+use mathlib.Core.List.{List, [], _∷_, _++_, map}
+use Prim.Native.Nat.{ℕ, zero, suc}
+use Rattle.ring.specs.Phases.{Pair, Gap, ring, later}
+use Rattle.rules.specs.declared.Setup.{Setup}
+use Rattle.rules.specs.declared.Relation.{Relation}
+use Rattle.rules.specs.declared.Relation.the-variants.{Before, Same, Concurrent}
+use Rattle.rules.specs.Numbers.{
+  Name,
+  BadSetup,
+  NoDesk,
+  SameDesk,
+  NoPlace,
+  NotYours,
+  NoEvent,
+  PhaseFull,
+  SeatBehind,
+  MailBehind,
+  OutOfReach,
+  number,
+}
+use Rattle.rules.specs.Model.{
+  Row,
+  local,
+  reset,
+  keep,
+  send,
+  receive,
+  before,
+  compare,
+  Value,
+  nothing,
+  stamp,
+  sent,
+  slot,
+  says,
+  relates,
+  shows,
+}
+use Rattle.rules.specs.Calls.{Book, Call, start, on, Turn, ringOf}
+use Rattle.rules.specs.Labels.{Label, gapOff, beforeOff}
+use Rattle.history.specs.Runs.{run}
+
+abbrev pub setupWith : ℕ → ℕ → Setup
+setupWith P A = record { desks = 3; phases = P; clocks = 4; seatLag = 2; shelfLag = A; back = 2; ahead = 2 }
+
+abbrev pub X : Setup
+X = setupWith 5 4
+
+abbrev pub narrow : Setup
+narrow = record { desks = 2; phases = 3; clocks = 3; seatLag = 1; shelfLag = 1; back = 1; ahead = 1 }
+
+abbrev pub pair : ℕ → ℕ → Pair
+pair v t = record { phase = v; clock = t }
+
+pub data Shown : Type 0 where
+  plain : Shown
+  made : ℕ → List Pair → Shown
+  posted : ℕ → ℕ → List Pair → Shown
+  inSlot : ℕ → Shown
+  word : Bool → Shown
+  stands : Relation → Shown
+  row : List Pair → Shown
+
+unfoldable pub pairs : ℕ → ℕ → Row → List Pair
+pairs k zero r = []
+pairs k (suc n) r = r k ∷ pairs (suc k) n r
+
+abbrev pub shown : ℕ → Value → Shown
+shown D nothing = plain
+shown D (stamp j r) = made j (pairs 0 D r)
+shown D (sent p j r) = posted p j (pairs 0 D r)
+shown D (slot s) = inSlot s
+shown D (says t) = word t
+shown D (relates r) = stands r
+shown D (shows r) = row (pairs 0 D r)
+
+pub record Line : Type 0 where
+  pub number : ℕ
+  pub shown : Shown
+
+abbrev pub told : Shown → Line
+told v = record { number = 0; shown = v }
+
+abbrev pub refused : Name → Line
+refused w = record { number = number w; shown = plain }
+
+pub record Case : Type 0 where
+  pub calls : List Call
+  pub lines : List Line
+
+abbrev pub turnLine : Turn → Line
+turnLine t = record { number = t .answer .number; shown = shown (t .book .setup .desks) (t .answer .value) }
+
+abbrev pub answers : Book → Case → List Line
+answers b c = map turnLine (run ringOf b (c .calls))
+
+abbrev pub opened : Setup → List Call → List Line → Case
+opened X cs ls = record { calls = start X ∷ cs; lines = told plain ∷ ls }
+
+abbrev pub starred : List Case
+starred =
+    -- 1 and 2
+    record {
+      calls = start X ∷ start (setupWith 4 4) ∷ start (setupWith 5 1) ∷ [];
+      lines = told plain ∷ refused BadSetup ∷ refused BadSetup ∷ [];
+    }
+    -- 3
+    ∷ opened X (on (local 0) ∷ []) (told (made 0 (pair 0 1 ∷ pair 0 0 ∷ pair 0 0 ∷ [])) ∷ [])
+    -- 5
+    ∷ opened X (on (keep 2) ∷ []) (refused NoEvent ∷ [])
+    -- 6
+    ∷ opened X (on (send 0 0) ∷ on (send 3 3) ∷ []) (refused SameDesk ∷ refused NoDesk ∷ [])
+    -- 7
+    ∷ opened X (on (local 0) ∷ on (local 0) ∷ on (local 0) ∷ on (local 0) ∷ [])
+    (told (made 0 (pair 0 1 ∷ pair 0 0 ∷ pair 0 0 ∷ []))
+    ∷ told (made 0 (pair 0 2 ∷ pair 0 0 ∷ pair 0 0 ∷ []))
+    ∷ told (made 0 (pair 0 3 ∷ pair 0 0 ∷ pair 0 0 ∷ []))
+    ∷ refused PhaseFull
+    ∷ [])
+    -- 8
+    ∷ opened X (on (reset 0) ∷ on (reset 0) ∷ on (reset 0) ∷ [])
+    (told (made 0 (pair 1 0 ∷ pair 0 0 ∷ pair 0 0 ∷ []))
+    ∷ told (made 0 (pair 2 0 ∷ pair 0 0 ∷ pair 0 0 ∷ []))
+    ∷ refused SeatBehind
+    ∷ [])
+    -- 11
+    ∷ opened X (on (local 0) ∷ on (keep 0) ∷ on (keep 0) ∷ on (compare 0 1) ∷ on (before 0 1) ∷ on (before 1 0) ∷ [])
+    (told (made 0 (pair 0 1 ∷ pair 0 0 ∷ pair 0 0 ∷ []))
+    ∷ told (inSlot 0)
+    ∷ told (inSlot 1)
+    ∷ told (stands Same)
+    ∷ told (word false)
+    ∷ told (word false)
+    ∷ [])
+    -- 12: it still waits, and is gone once it is received
+    ∷ opened X (on (send 0 1) ∷ on (receive 2 0) ∷ on (receive 1 0) ∷ on (receive 1 0) ∷ [])
+    (told (posted 0 0 (pair 0 1 ∷ pair 0 0 ∷ pair 0 0 ∷ []))
+    ∷ refused NotYours
+    ∷ told (made 1 (pair 0 1 ∷ pair 0 1 ∷ pair 0 0 ∷ []))
+    ∷ refused NoPlace
+    ∷ [])
+    ∷ []
+
+abbrev pub listing : Case
+listing =
+    opened narrow
+    (on (local 0)
+    ∷ on (keep 0)
+    ∷ on (send 0 1)
+    ∷ on (receive 1 0)
+    ∷ on (keep 1)
+    ∷ on (compare 0 1)
+    ∷ on (reset 0)
+    ∷ on (reset 0)
+    ∷ [])
+    (told (made 0 (pair 0 1 ∷ pair 0 0 ∷ []))
+    ∷ told (inSlot 0)
+    ∷ told (posted 0 0 (pair 0 2 ∷ pair 0 0 ∷ []))
+    ∷ told (made 1 (pair 0 2 ∷ pair 0 1 ∷ []))
+    ∷ told (inSlot 1)
+    ∷ told (stands Before)
+    ∷ told (made 0 (pair 1 0 ∷ pair 0 0 ∷ []))
+    ∷ refused SeatBehind
+    ∷ [])
+
+abbrev pub small : Setup
+small = record { desks = 2; phases = 3; clocks = 9; seatLag = 1; shelfLag = 1; back = 2; ahead = 2 }
+
+abbrev pub told-by : ℕ → List Call
+told-by p = on (reset 0) ∷ on (send 0 1) ∷ on (receive 1 p) ∷ []
+
+abbrev pub told-lines : ℕ → ℕ → ℕ → List Line
+told-lines p v t =
+    told (made 0 (pair v 0 ∷ pair 0 0 ∷ []))
+    ∷ told (posted p 0 (pair v 1 ∷ pair 0 0 ∷ []))
+    ∷ told (made 1 (pair v 1 ∷ pair 0 t ∷ []))
+    ∷ []
+
+abbrev pub errors : List Case
+errors =
+    -- taking the larger phase byte as the later one: after 2 the phase 0 is newer, and desk 1 takes it
+    opened small (told-by 0 ++ told-by 0 ++ told-by 0) (told-lines 0 1 1 ++ told-lines 0 2 2 ++ told-lines 0 0 3)
+    -- taking 0.0 as "nothing seen": the newest stamp of desk 0 is 0.0, and desk 1 has not seen it
+    ∷ opened small
+    (told-by 0 ++ told-by 0 ++ on (keep 1) ∷ on (reset 0) ∷ on (keep 0) ∷ on (before 1 0) ∷ on (compare 1 0) ∷ [])
+    (told-lines 0 1 1 ++ told-lines 0 2 2
+    ++ told (inSlot 0)
+    ∷ told (made 0 (pair 0 0 ∷ pair 0 0 ∷ []))
+    ∷ told (inSlot 1)
+    ∷ told (word false)
+    ∷ told (stands Concurrent)
+    ∷ [])
+    -- checking only seats at a reset: the mail in place 0 has waited for two phases
+    ∷ opened small (on (send 0 1) ∷ told-by 1 ++ told-by 1 ++ on (reset 0) ∷ [])
+    (told (posted 0 0 (pair 0 1 ∷ pair 0 0 ∷ [])) ∷ told-lines 1 1 1 ++ told-lines 1 2 2 ++ refused MailBehind ∷ [])
+    -- merging the receiver's own entry from the mail: desk 1 has a clock of 1, and the mail knows of 0
+    ∷ opened small (on (send 0 1) ∷ on (local 1) ∷ on (receive 1 0) ∷ [])
+    (told (posted 0 0 (pair 0 1 ∷ pair 0 0 ∷ []))
+    ∷ told (made 1 (pair 0 0 ∷ pair 0 1 ∷ []))
+    ∷ told (made 1 (pair 0 1 ∷ pair 0 2 ∷ []))
+    ∷ [])
+    -- giving "concurrent" when one direction is out of reach: at desk 1 the difference is 0, at desk 0 it is 2
+    ∷ opened X
+    (on (local 1) ∷ on (keep 1) ∷ on (reset 0) ∷ on (reset 0) ∷ on (keep 0) ∷ on (before 0 1) ∷ on (compare 0 1) ∷ [])
+    (told (made 1 (pair 0 0 ∷ pair 0 1 ∷ pair 0 0 ∷ []))
+    ∷ told (inSlot 0)
+    ∷ told (made 0 (pair 1 0 ∷ pair 0 0 ∷ pair 0 0 ∷ []))
+    ∷ told (made 0 (pair 2 0 ∷ pair 0 0 ∷ pair 0 0 ∷ []))
+    ∷ told (inSlot 1)
+    ∷ told (word false)
+    ∷ refused OutOfReach
+    ∷ [])
+    ∷ []
+
+abbrev pub all : List Case
+all = starred ++ listing ∷ errors
+
+abbrev pub laterOf : ℕ → List Pair
+laterOf own = later (ring 5) own (pair 4 0) (pair 0 0) ∷ later (ring 5) own (pair 0 0) (pair 4 0) ∷ []
+
+abbrev pub apart : ℕ → ℕ → Option Gap
+apart up down = some record { up = up; down = down }
+
+abbrev pub stampAt : ℕ → Label
+stampAt v = record { owner = 0; row = λ k. pair v 0 }
+
+pub record Cases : Type 0 where
+  pub runs : (b : Book) → map (answers b) all ≡ map (λ (c : Case). c .lines) all
+  -- 9
+  pub newest : (laterOf 0 ≡ (pair 0 0 ∷ pair 0 0 ∷ [])) × (laterOf 4 ≡ (pair 4 0 ∷ pair 4 0 ∷ []))
+  -- 10: r of 0, 1, 4, 2, 3
+  pub reach : map (λ v. gapOff X 0 (stampAt 3 .row) (stampAt v .row)) (3 ∷ 4 ∷ 2 ∷ 0 ∷ 1 ∷ [])
+      ≡ (apart 0 0 ∷ apart 1 0 ∷ apart 0 1 ∷ none ∷ none ∷ [])
+  pub numbers : map (λ v. beforeOff X (some (stampAt 3)) (some (stampAt v)) .number) (3 ∷ 4 ∷ 2 ∷ 0 ∷ 1 ∷ [])
+      ≡ (0 ∷ 0 ∷ 0 ∷ number OutOfReach ∷ number OutOfReach ∷ [])

@@ -1,0 +1,2 @@
+-- Cases worked by hand, and the lines that answer them.
+pub mod Cases

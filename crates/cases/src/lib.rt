@@ -1,0 +1,1 @@
+// The cases worked by hand: definitions and laws alone; no code.

@@ -1,0 +1,175 @@
+-- On the line every lag stays within what the setup permits.
+-- Assumes nothing.
+use mathlib.Core.Path.{_≡_, refl, ap, sym, subst, fun-ext}
+use mathlib.Core.Bool.{Bool, true, false}
+use mathlib.Core.Option.{Option, none, some}
+use Prim.Native.Nat.{ℕ, _+_, _-_, _*_, _≤_, _<_}
+use native.Mathlib.Omega.{arith}
+use borrow.Author.Tests.{eqb-false, ne-eqb}
+use Rattle.ring.specs.Phases.{line, Pair, isLater, later}
+use Rattle.rules.specs.Model.{phases}
+use Rattle.rules.proofs.Setups.{Permitted}
+use Rattle.rules.proofs.Accepted.{no-local, no-send, no-receive, no-reset, no-keep}
+use Rattle.rules.specs.declared.Setup.{Setup}
+use Rattle.tools.specs.Tests.{pick}
+use Rattle.tools.specs.Tables.{put}
+use Rattle.rules.specs.Model.{Row, Seat, Held, Tables, Act, local, reset, keep, drop, discard, show, send, receive, before, compare}
+use Rattle.rules.specs.Model.{write, done, why, fresh, grown, merged, turned, seated, freeMail, freeSlot, rowIn, used}
+use Rattle.rules.specs.Model.{own, lags, seatLags, tick, turn}
+use Rattle.tools.specs.Tables.{Each}
+use Rattle.tools.proofs.Tables.{put-all, put-both, put-same}
+use Rattle.ring.proofs.Ring.{later-lag}
+
+abbrev pub Near : ℕ → ℕ → ℕ → Type 0
+Near o B v = (v ≤ o) × (o ≤ v + B)
+
+abbrev pub NearRow : (ℕ → ℕ) → ℕ → Row → Type 0
+NearRow o B r = (k : ℕ) → Near (o k) B (r k .phase)
+
+abbrev pub NearAt : (ℕ → ℕ) → ℕ → ℕ → Held → Type 0
+NearAt o B p w = (p < 32) × NearRow o B (w .row)
+
+-- o is the own phase of each desk
+pub record Within (X : Setup) (o : ℕ → ℕ) (b : Tables) : Type 0 where
+  pub seats : (s : ℕ) → s < X .desks → NearRow o (X .seatLag) (b .seat s .row)
+  pub mail : (p : ℕ) → Each (NearAt o (2 * X .seatLag) p) (b .mail p)
+  pub shelf : (s : ℕ) → Each (NearAt o (X .shelfLag) s) (b .shelf s)
+
+abbrev pub Bounded : Setup → Tables → Type 0
+Bounded X b = Within X (phases b) b
+
+pub fresh-bounded : (X : Setup) → Bounded X fresh
+fresh-bounded X = record { seats = λ s h k. (omega arith, omega arith); mail = λ p. tt; shelf = λ s. tt }
+
+-- an event that keeps j's own phase keeps every own phase
+same-phases : (b : Tables) (j : ℕ) (r : Row) → r j .phase ≡ phases b j
+    → (k : ℕ) → (seated b j r k) .row k .phase ≡ phases b k
+same-phases b j r e =
+    put-all (λ k (s : Seat). s .row k .phase ≡ phases b k) (b .seat) j (record { started = true; row = r }) e (λ k h. refl)
+
+module _ (X : Setup) (ok : Permitted X) (b : Tables) (w : Bounded X b) where
+  -- an event at j that leaves the own phases: seats and shelf as they were but for j's row
+  quiet : (j : ℕ) (r : Row) (mail : ℕ → Option Held) → r j .phase ≡ phases b j
+      → NearRow (phases b) (X .seatLag) r
+      → ((p : ℕ) → Each (NearAt (phases b) (2 * X .seatLag) p) (mail p))
+      → Bounded X (record { seat = seated b j r; mail = mail; shelf = b .shelf })
+  quiet j r mail e near posts =
+      subst (λ o. Within X o (record { seat = seated b j r; mail = mail; shelf = b .shelf }))
+      (sym (fun-ext (same-phases b j r e)))
+      (record {
+        seats = put-all (λ s (t : Seat). s < X .desks → NearRow (phases b) (X .seatLag) (t .row)) (b .seat) j
+            (record { started = true; row = r }) (λ h. near) (λ s h. w .seats s);
+        mail = posts;
+        shelf = w .shelf;
+      })
+
+  grown-near : (j : ℕ) → j < X .desks → NearRow (phases b) (X .seatLag) (grown b j)
+  grown-near j h =
+      put-all (λ k (q : Pair). Near (phases b k) (X .seatLag) (q .phase)) (b .seat j .row) j (tick (own b j))
+      (omega arith, omega arith) (λ k h′. w .seats j h k)
+
+  grown-own : (j : ℕ) → (grown b j) j .phase ≡ phases b j
+  grown-own j = ap (λ (q : Pair). q .phase) (put-same (b .seat j .row) j (tick (own b j)))
+
+  merged-own : (j : ℕ) (m : Row) → (merged line b j m) j .phase ≡ phases b j
+  merged-own j m =
+      ap (λ (q : Pair). q .phase) (put-same (λ k. later line (phases b k) (b .seat j .row k) (m k)) j (tick (own b j)))
+
+  later-near : (o B : ℕ) (x y : Pair) → Near o B (x .phase) → y .phase ≤ o → Near o B (later line o x y .phase)
+  later-near o B x y n h = go (isLater line o y x) refl
+    where
+      go : (t : Bool) → isLater line o y x ≡ t → Near o B ((pick t y x) .phase)
+      go false e = n
+      go true e = (h, let l = later-lag line o x y e in omega arith)
+
+  merged-near : (j : ℕ) → j < X .desks → (m : Row) → NearRow (phases b) (2 * X .seatLag) m
+      → NearRow (phases b) (X .seatLag) (merged line b j m)
+  merged-near j h m n =
+      put-all (λ k (q : Pair). Near (phases b k) (X .seatLag) (q .phase)) (λ k. later line (phases b k) (b .seat j .row k) (m k)) j
+      (tick (own b j))
+      (omega arith, omega arith) (λ k h′. later-near (phases b k) (X .seatLag) (b .seat j .row k) (m k) (w .seats j h k) (n k .0))
+
+  pub mail-near : (p : ℕ) → used (b .mail p) ≡ true → NearRow (phases b) (2 * X .seatLag) (rowIn (b .mail p))
+  mail-near p u = go (b .mail p) (w .mail p) u
+    where
+      go : (o : Option Held) → Each (NearAt (phases b) (2 * X .seatLag) p) o → used o ≡ true → NearRow (phases b) (2 * X .seatLag) (rowIn o)
+      go none n u = absurd (mathlib.Core.Bool.false≢true u)
+      go (some m) n u = n .1
+
+  reset-held : (j B p : ℕ) (o : Option Held) → Each (NearAt (phases b) B p) o → (p < 32 → lags line b j B o ≡ false)
+      → Each (NearAt (put (phases b) j (phases b j + 1)) B p) o
+  reset-held j B p none n h = tt
+  reset-held j B p (some m) n h = (
+    n .0,
+    put-all (λ k o. Near o B (m .row k .phase)) (phases b) j (phases b j + 1)
+        (let z : phases b j - m .row j .phase ≡ B → ⊥ = eqb-false _ _ (h (n .0)) in let a = n .1 j in (omega arith, omega arith))
+        (λ k h′. n .1 k),
+  )
+
+  reset-seats : (j : ℕ) → ((s : ℕ) → s < X .desks → seatLags line b j (X .seatLag) s ≡ false)
+      → (s : ℕ) → s < X .desks → NearRow (put (phases b) j (phases b j + 1)) (X .seatLag) ((seated b j (turned line b j) s) .row)
+  reset-seats j h =
+      put-all (λ s (t : Seat). s < X .desks → NearRow (put (phases b) j (phases b j + 1)) (X .seatLag) (t .row)) (b .seat) j
+      (record { started = true; row = turned line b j })
+      (λ l. put-both (λ k (q : Pair) o. Near o (X .seatLag) (q .phase)) (b .seat j .row) (phases b) j (turn line (own b j))
+      (phases b j + 1) (omega arith, omega arith) (λ k h′. w .seats j l k))
+      (λ s ne l. put-all (λ k o. Near o (X .seatLag) (b .seat s .row k .phase)) (phases b) j (phases b j + 1)
+      (let z : phases b j - b .seat s .row j .phase ≡ X .seatLag → ⊥ = eqb-false _ _ (rw (ne-eqb s j ne) at (h s l)) in
+      let a = w .seats s l j in (omega arith, omega arith))
+      (λ k h′. w .seats s l k))
+
+  pub reset-own : (j : ℕ) → phases (record { seat = seated b j (turned line b j); mail = b .mail; shelf = b .shelf })
+      ≡ put (phases b) j (phases b j + 1)
+  reset-own j =
+      fun-ext (put-both (λ k (s : Seat) o. s .row k .phase ≡ o) (b .seat) (phases b) j
+      (record { started = true; row = turned line b j }) (phases b j + 1)
+      (ap (λ (q : Pair). q .phase) (put-same (b .seat j .row) j (turn line (own b j)))) (λ k h. refl))
+
+  pub bounded-done : (c : Act) → why line X b c ≡ 0 → Bounded X ((done line X b c) .tables)
+  unfolding done
+  bounded-done (local j) e =
+      let n = no-local line X b j e in
+      quiet j (grown b j) (b .mail) (grown-own j) (grown-near j (n .0)) (w .mail)
+  bounded-done (send j k) e =
+      let n = no-send line X b j k e in
+      quiet j (grown b j) _ (grown-own j) (grown-near j (n .0))
+      (put-all (λ p o. Each (NearAt (phases b) (2 * X .seatLag) p) o) (b .mail) (freeMail b) _
+      (n .2, λ k. let a = grown-near j (n .0) k in (omega arith, omega arith)) (λ p h. w .mail p))
+  bounded-done (receive j p) e =
+      let n = no-receive line X b j p e in
+      quiet j (merged line b j (rowIn (b .mail p))) _ (merged-own j (rowIn (b .mail p)))
+      (merged-near j (n .0) (rowIn (b .mail p)) (mail-near p (n .1)))
+      (put-all (λ p o. Each (NearAt (phases b) (2 * X .seatLag) p) o) (b .mail) p none tt (λ p h. w .mail p))
+  bounded-done (reset j) e =
+      let n = no-reset line X b j e in
+      subst (λ o. Within X o (record { seat = seated b j (turned line b j); mail = b .mail; shelf = b .shelf }))
+      (sym (reset-own j))
+      (record {
+        seats = reset-seats j (n .1);
+        mail = λ p. reset-held j (2 * X .seatLag) p (b .mail p) (w .mail p) (n .2 p);
+        shelf = λ p. reset-held j (X .shelfLag) p (b .shelf p) (w .shelf p) (n .3 p);
+      })
+  bounded-done (keep j) e =
+      let n = no-keep line X b j e in
+      record {
+        seats = w .seats;
+        mail = w .mail;
+        shelf = put-all (λ s o. Each (NearAt (phases b) (X .shelfLag) s) o) (b .shelf) (freeSlot b) _
+            (n .2, λ k. let a = w .seats j (n .0) k in let q = ok .kept in (omega arith, omega arith)) (λ s h. w .shelf s);
+      }
+  bounded-done (drop s) e =
+      record {
+        seats = w .seats;
+        mail = w .mail;
+        shelf = put-all (λ s o. Each (NearAt (phases b) (X .shelfLag) s) o) (b .shelf) s none tt (λ s h. w .shelf s);
+      }
+  bounded-done (discard p) e =
+      record {
+        seats = w .seats;
+        shelf = w .shelf;
+        mail = put-all (λ s o. Each (NearAt (phases b) (2 * X .seatLag) s) o) (b .mail) p none tt (λ s h. w .mail s);
+      }
+  bounded-done (before s t) e = w
+  bounded-done (compare s t) e = w
+  bounded-done (show s) e = w
+  bounded-done (write s room) e = w

@@ -1,0 +1,259 @@
+-- A log's rows know exactly what leads to them, and one more event keeps it so.
+-- Assumes nothing.
+use mathlib.Core.Path.{_≡_, refl, ap, sym, _∙_, subst}
+use mathlib.Core.Option.{some}
+use mathlib.Core.Logic.{_⊎_, inl, inr}
+use Prim.Native.Nat.{ℕ, suc, _≤_, _<_}
+use native.Mathlib.Omega.{arith}
+use native.Mathlib.Decide.{ℕ-discrete}
+use Rattle.ring.specs.Phases.{Pair}
+use Rattle.rules.specs.declared.Setup.{Setup}
+use Rattle.rules.specs.Model.{Row, zeros}
+use Rattle.history.specs.History.{Kind, cause, Log, Link, desk-link, mail-link, Leads, one, more, logged}
+use Rattle.history.specs.Vector.{Upto, Earlier, Last, Never}
+use Rattle.tools.specs.Tables.{Each}
+use Rattle.tools.proofs.Tables.{put-all, put-same, put-other}
+use Rattle.tools.proofs.Tests.{lt-or-le}
+use Rattle.history.proofs.Keys.{key, key-earlier}
+
+-- the event's own pair, as a number, and what row f knows of the desk of e
+abbrev pub seen : Setup → Log → ℕ → ℕ → ℕ
+seen X h e f = key X (h .row f (h .desk e))
+
+abbrev pub Caused : Log → Type 0
+Caused h = (f : ℕ) → f < h .count → Each (λ e. e < f) (cause (h .kind f))
+
+-- a pair for desk k is that of one of k's events, or 0, 0
+abbrev pub Origin : Log → ℕ → Pair → Type 0
+Origin h k q = (q ≡ zeros k) ⊎ ((e : ℕ) × (e < h .count) × (h .desk e ≡ k) × (h .row e k ≡ q))
+
+pub record Causal (X : Setup) (h : Log) : Type 0 where
+  pub clocks : (e : ℕ) → e < h .count → (k : ℕ) → h .row e k .clock < X .clocks
+  pub caused : Caused h
+  pub positive : (e : ℕ) → e < h .count → 0 < seen X h e e
+  pub sound : (e f : ℕ) → e < h .count → f < h .count → Upto h e f → seen X h e e ≤ seen X h e f
+  pub complete : (e f : ℕ) → e < h .count → f < h .count → seen X h e e ≤ seen X h e f → Upto h e f
+  pub origin : (f : ℕ) → f < h .count → (k : ℕ) → Origin h k (h .row f k)
+
+pub link-lt : (h : Log) → Caused h → {e f : ℕ} → Link h e f → f < h .count → e < f
+link-lt h c (desk-link l q) b = l
+link-lt h c (mail-link {e = e} {f = f} q) b = rw q at (c f b)
+
+pub leads-lt : (h : Log) → Caused h → {e f : ℕ} → Leads h e f → f < h .count → e < f
+leads-lt h c (one l) b = link-lt h c l b
+leads-lt h c (more {f = f} {g = g} a l) b =
+    let y = link-lt h c l b in
+    let x = leads-lt h c a (omega arith) in
+    omega arith
+
+-- two logs that agree below n have the same chains there
+module _ (h h′ : Log) (n : ℕ) (desks : (i : ℕ) → i < n → h .desk i ≡ h′ .desk i)
+    (kinds : (i : ℕ) → i < n → h .kind i ≡ h′ .kind i) (back : (e f : ℕ) → Link h e f → f < n → e < f) where
+  carry-link : {e f : ℕ} → Link h e f → f < n → Link h′ e f
+  carry-link (desk-link {e = e} {f = f} l q) b = desk-link l (sym (desks e (omega arith)) ∙ q ∙ desks f b)
+  carry-link (mail-link {e = e} {f = f} q) b = mail-link (sym (ap cause (kinds f b)) ∙ q)
+
+  pub carry : {e f : ℕ} → Leads h e f → f < n → Leads h′ e f
+  carry (one l) b = one (carry-link l b)
+  carry (more {f = f} {g = g} a l) b = let y = back f g l b in more (carry a (omega arith)) (carry-link l b)
+
+pub below : (Q : ℕ → Type 0) (n e : ℕ) → e < suc n → (e < n → Q e) → Q n → Q e
+below Q n e h f q = go (ℕ-discrete e n)
+  where
+    go : Dec (e ≡ n) → Q e
+    go (yes p) = subst Q (sym p) q
+    go (no p) = f (omega arith)
+
+-- what an event at j, its row r, must meet
+pub record Fits (X : Setup) (h : Log) (j : ℕ) (w : Kind) (r : Row) : Type 0 where
+  pub small : (k : ℕ) → r k .clock < X .clocks
+  pub sent : Each (λ e. e < h .count) (cause w)
+  pub ahead : (f : ℕ) → f < h .count → key X (h .row f j) < key X (r j)
+  pub first : 0 < key X (r j)
+  pub from : (k : ℕ) → (k ≡ j → ⊥) → Origin h k (r k)
+  -- what leads to it is known to it
+  pub tells : (e g : ℕ) → e < h .count → g < h .count → Upto h e g → (h .desk g ≡ j) ⊎ (cause w ≡ some g)
+      → (h .desk e ≡ j → ⊥) → seen X h e e ≤ key X (r (h .desk e))
+  -- what is known to it leads to it
+  pub heard : (e : ℕ) → e < h .count → (h .desk e ≡ j → ⊥) → seen X h e e ≤ key X (r (h .desk e))
+      → (g : ℕ) × (g < h .count) × Upto h e g × ((h .desk g ≡ j) ⊎ (cause w ≡ some g))
+
+module _ (X : Setup) (h : Log) (c : Causal X h) (j : ℕ) (w : Kind) (r : Row) (fit : Fits X h j w r) where
+  pub old-desk : (i : ℕ) → i < h .count → (logged h j w r) .desk i ≡ h .desk i
+  old-desk i l = put-other (h .desk) (h .count) j i (omega arith)
+
+  old-kind : (i : ℕ) → i < h .count → (logged h j w r) .kind i ≡ h .kind i
+  old-kind i l = put-other (h .kind) (h .count) w i (omega arith)
+
+  pub old-row : (i : ℕ) → i < h .count → (logged h j w r) .row i ≡ h .row i
+  old-row i l = put-other (h .row) (h .count) r i (omega arith)
+
+  seen-old : (e f : ℕ) → e < h .count → f < h .count → seen X (logged h j w r) e f ≡ seen X h e f
+  seen-old e f a b = λ i. key X (old-row f b i (old-desk e a i))
+
+  seen-into : (e : ℕ) → e < h .count → seen X (logged h j w r) e (h .count) ≡ key X (r (h .desk e))
+  seen-into e a = λ i. key X (put-same (h .row) (h .count) r i (old-desk e a i))
+
+  seen-from : (f : ℕ) → f < h .count → seen X (logged h j w r) (h .count) f ≡ key X (h .row f j)
+  seen-from f b = λ i. key X (old-row f b i (put-same (h .desk) (h .count) j i))
+
+  seen-new : seen X (logged h j w r) (h .count) (h .count) ≡ key X (r j)
+  seen-new = λ i. key X (put-same (h .row) (h .count) r i (put-same (h .desk) (h .count) j i))
+
+  caused : Caused (logged h j w r)
+  caused =
+      put-all (λ f (o : Kind). f < suc (h .count) → Each (λ e. e < f) (cause o)) (h .kind) (h .count) w (λ l. fit .sent)
+      (λ f ne l. c .caused f (omega arith))
+
+  pub up : (e f : ℕ) → Leads h e f → f < h .count → Leads (logged h j w r) e f
+  up e f = carry h (logged h j w r) (h .count) (λ i l. sym (old-desk i l)) (λ i l. sym (old-kind i l))
+      (λ e f l b. link-lt h (c .caused) l b)
+
+  down : (e f : ℕ) → Leads (logged h j w r) e f → f < h .count → Leads h e f
+  down e f = carry (logged h j w r) h (h .count) old-desk old-kind
+      (λ e f l b. link-lt (logged h j w r) caused l (omega arith))
+
+  up-to : (e f : ℕ) → f < h .count → Upto h e f → Upto (logged h j w r) e f
+  up-to e f b (inl q) = inl q
+  up-to e f b (inr l) = inr (up e f l b)
+
+  down-to : (e f : ℕ) → f < h .count → Upto (logged h j w r) e f → Upto h e f
+  down-to e f b (inl q) = inl q
+  down-to e f b (inr l) = inr (down e f l b)
+
+  -- the last link of a chain to the new event
+  last-link : {g f : ℕ} → Link (logged h j w r) g f → f ≡ h .count → g < h .count → (h .desk g ≡ j) ⊎ (cause w ≡ some g)
+  last-link (desk-link {e = g} {f = f} l q) e b =
+      inl (sym (old-desk g b) ∙ q ∙ ap ((logged h j w r) .desk) e ∙ put-same (h .desk) (h .count) j)
+  last-link (mail-link {e = g} {f = f} q) e b =
+      inr (ap cause (sym (put-same (h .kind) (h .count) w) ∙ sym (ap ((logged h j w r) .kind) e)) ∙ q)
+
+  last-step : {e f : ℕ} → Leads (logged h j w r) e f → f ≡ h .count
+      → (g : ℕ) × (g < h .count) × Upto h e g × ((h .desk g ≡ j) ⊎ (cause w ≡ some g))
+  last-step (one {e = e} {f = f} l) q =
+      let b : e < h .count = (let z = link-lt (logged h j w r) caused l (omega arith) in omega arith) in
+      (e, b, inl refl, last-link l q b)
+  last-step (more {e = e} {f = g} {g = f} a l) q =
+      let b : g < h .count = (let z = link-lt (logged h j w r) caused l (omega arith) in omega arith) in
+      (g, b, inr (down e g a b), last-link l q b)
+
+  new-link : (g : ℕ) → g < h .count → (h .desk g ≡ j) ⊎ (cause w ≡ some g) → Link (logged h j w r) g (h .count)
+  new-link g b (inl q) = desk-link b (old-desk g b ∙ q ∙ sym (put-same (h .desk) (h .count) j))
+  new-link g b (inr q) = mail-link (ap cause (put-same (h .kind) (h .count) w) ∙ q)
+
+  new-leads : (e g : ℕ) → g < h .count → Upto h e g → Link (logged h j w r) g (h .count) → Leads (logged h j w r) e (h .count)
+  new-leads e g b (inl q) l = one (subst (λ x. Link (logged h j w r) x (h .count)) (sym q) l)
+  new-leads e g b (inr a) l = more (up e g a b) l
+
+  -- e and the new event
+  to-new : (e : ℕ) → e < h .count → Leads (logged h j w r) e (h .count) → seen X h e e ≤ key X (r (h .desk e))
+  to-new e a l = go (ℕ-discrete (h .desk e) j)
+    where
+      go : Dec (h .desk e ≡ j) → seen X h e e ≤ key X (r (h .desk e))
+      go (yes q) = rw q (let z = fit .ahead e a in omega arith)
+      go (no q) = let s = last-step l refl in fit .tells e (s .0) a (s .1) (s .2) (s .3) q
+
+  of-new : (e : ℕ) → e < h .count → seen X h e e ≤ key X (r (h .desk e)) → Leads (logged h j w r) e (h .count)
+  of-new e a k = go (ℕ-discrete (h .desk e) j)
+    where
+      go : Dec (h .desk e ≡ j) → Leads (logged h j w r) e (h .count)
+      go (yes q) = one (new-link e a (inl q))
+      go (no q) = let s = fit .heard e a q k in new-leads e (s .0) (s .1) (s .2) (new-link (s .0) (s .1) (s .3))
+
+  no-later : (f : ℕ) → f < h .count → Upto (logged h j w r) (h .count) f → ⊥
+  no-later f b (inl q) = omega arith
+  no-later f b (inr l) = let z = leads-lt (logged h j w r) caused l (omega arith) in omega arith
+
+  old-new : (e : ℕ) → e < h .count → Upto (logged h j w r) e (h .count) → seen X h e e ≤ key X (r (h .desk e))
+  old-new e a (inl q) = absurd (omega arith)
+  old-new e a (inr l) = to-new e a l
+
+  origin-up : (k : ℕ) (q : Pair) → Origin h k q → Origin (logged h j w r) k q
+  origin-up k q (inl z) = inl z
+  origin-up k q (inr s) =
+      inr (s .0, (let z = s .1 in omega arith), old-desk (s .0) (s .1) ∙ s .2, ap (λ (ρ : Row). ρ k) (old-row (s .0) (s .1)) ∙ s .3)
+
+  origin-new : (k : ℕ) → Origin (logged h j w r) k (r k)
+  origin-new k = go (ℕ-discrete k j)
+    where
+      go : Dec (k ≡ j) → Origin (logged h j w r) k (r k)
+      go (yes q) =
+          inr (h .count, omega arith, put-same (h .desk) (h .count) j ∙ sym q, ap (λ (ρ : Row). ρ k) (put-same (h .row) (h .count) r))
+      go (no q) = origin-up k (r k) (fit .from k q)
+
+  pub causal-next : Causal X (logged h j w r)
+  causal-next =
+      record {
+        clocks = put-all (λ e (ρ : Row). e < suc (h .count) → (k : ℕ) → ρ k .clock < X .clocks) (h .row) (h .count) r (λ l. fit .small)
+            (λ e ne l. c .clocks e (omega arith));
+        caused = caused;
+        positive = λ e a. below (λ e. 0 < seen X (logged h j w r) e e) (h .count) e a (λ a. rw (seen-old e e a a) (c .positive e a))
+            (rw seen-new (fit .first));
+        sound = λ e f a b. below (λ e. Upto (logged h j w r) e f → seen X (logged h j w r) e e ≤ seen X (logged h j w r) e f) (h .count) e a
+            (λ a. below (λ f. Upto (logged h j w r) e f → seen X (logged h j w r) e e ≤ seen X (logged h j w r) e f) (h .count) f b
+            (λ b u. rw (seen-old e e a a, seen-old e f a b) (c .sound e f a b (down-to e f b u)))
+            (λ u. rw (seen-old e e a a, seen-into e a) (old-new e a u)))
+            (below (λ f. Upto (logged h j w r) (h .count) f
+            → seen X (logged h j w r) (h .count) (h .count) ≤ seen X (logged h j w r) (h .count) f) (h .count) f b
+            (λ b u. absurd (no-later f b u))
+            (λ u. omega arith));
+        complete =
+            λ e f a b. below (λ e. seen X (logged h j w r) e e ≤ seen X (logged h j w r) e f → Upto (logged h j w r) e f) (h .count) e a
+            (λ a. below (λ f. seen X (logged h j w r) e e ≤ seen X (logged h j w r) e f → Upto (logged h j w r) e f) (h .count) f b
+            (λ b k. up-to e f b (c .complete e f a b (rw (seen-old e e a a, seen-old e f a b) at k)))
+            (λ k. inr (of-new e a (rw (seen-old e e a a, seen-into e a) at k))))
+            (below (λ f. seen X (logged h j w r) (h .count) (h .count) ≤ seen X (logged h j w r) (h .count) f
+            → Upto (logged h j w r) (h .count) f) (h .count) f b
+            (λ b k.
+            absurd
+            (let z = fit .ahead f b in
+            let z′ : key X (r j) ≤ key X (h .row f j) = rw (seen-new, seen-from f b) at k in
+            omega arith))
+            (λ k. inl refl));
+        origin = λ f b. below (λ f. (k : ℕ) → Origin (logged h j w r) k ((logged h j w r) .row f k)) (h .count) f b
+            (λ b k. rw (old-row f b) (origin-up k (h .row f k) (c .origin f b k)))
+            (λ k. rw (put-same (h .row) (h .count) r) (origin-new k));
+      }
+
+-- Each desk's pairs rise; a row's entry for desk k is that of the last event of k up to it.
+module _ (X : Setup) (h : Log) (c : Causal X h) where
+  upto-le : (e f : ℕ) → f < h .count → Upto h e f → e ≤ f
+  upto-le e f b (inl q) = omega arith
+  upto-le e f b (inr l) = let z = leads-lt h (c .caused) l b in omega arith
+
+  pub rising : (e f : ℕ) → e < f → f < h .count → h .desk e ≡ h .desk f → Earlier (h .row e (h .desk e)) (h .row f (h .desk e))
+  rising e f l b q =
+      let a : e < h .count = omega arith in
+      key-earlier X (h .row e (h .desk e)) (h .row f (h .desk e)) (c .clocks e a (h .desk e)) (c .clocks f b (h .desk e))
+      (go a (lt-or-le (seen X h e e) (seen X h e f)))
+    where
+      go : e < h .count → (seen X h e e < seen X h e f) ⊎ (seen X h e f ≤ seen X h e e) → seen X h e e < seen X h e f
+      go a (inl z) = z
+      go a (inr z) =
+          absurd (let y = upto-le f e a (c .complete f e b a (subst (λ d. key X (h .row f d) ≤ key X (h .row e d)) q z)) in omega arith)
+
+  pub entry : (f : ℕ) → f < h .count → (k : ℕ) → Never h f k ⊎ ((e : ℕ) × Last h f k e)
+  entry f b k = go (c .origin f b k)
+    where
+      go : Origin h k (h .row f k) → Never h f k ⊎ ((e : ℕ) × Last h f k e)
+      go (inl z) =
+          inl (record {
+            pair = z;
+            never = λ e a q u.
+                let x = c .sound e f a b u in
+                let y = c .positive e a in
+                let w : seen X h e f ≡ key X (zeros k) = ap (λ d. key X (h .row f d)) q ∙ ap (key X) z in
+                omega arith;
+          })
+      go (inr (e, a, q, z)) =
+          inr (
+            e,
+            record {
+              is = a;
+              at = q;
+              pair = z;
+              leads = c .complete e f a b (let w : seen X h e e ≡ seen X h e f = rw q (ap (key X) z) in omega arith);
+              last = λ e′ a′ q′ u. upto-le e′ e a (c .complete e′ e a′ a
+                  (let w : seen X h e′ e ≡ seen X h e′ f = rw q′ (ap (key X) z) in let x = c .sound e′ f a′ b u in omega arith));
+            },
+          )

@@ -1,0 +1,374 @@
+-- The line's book and its history belong together, and every call keeps it so.
+-- Assumes nothing.
+use mathlib.Core.Path.{_≡_, refl, ap, sym, _∙_, subst}
+use mathlib.Core.Bool.{Bool, true, false}
+use mathlib.Core.Option.{Option, none, some}
+use mathlib.Core.Logic.{_⊎_, inl, inr}
+use Prim.Native.Nat.{ℕ, zero, suc, _+_, _*_, _≤_, _<_}
+use native.Mathlib.Omega.{arith}
+use native.Mathlib.Decide.{ℕ-discrete}
+use lib.Dec.{ltb}
+use borrow.Author.Tests.{ltb-true, ltb-false}
+use Rattle.ring.specs.Phases.{line, Pair, isLater, later}
+use Rattle.rules.proofs.Setups.{Permitted}
+use Rattle.rules.specs.declared.Setup.{Setup}
+use Rattle.tools.specs.Tests.{pick}
+use Rattle.tools.specs.Tables.{put}
+use Rattle.rules.specs.Model.{Row, Seat, Held, Tables, Act, local, reset, keep, drop, discard, show, send, receive, before, compare}
+use Rattle.rules.specs.Model.{write, step, done, why, fresh, zeros, grown, merged, turned, seated, freeMail, freeSlot, rowIn, used}
+use Rattle.rules.specs.Model.{own, tick, turn, settle}
+use Rattle.history.specs.History.{Kind, cause, Local, Send, Reset, Receive, Log, History, desk-link, one, more, logged, noted, none-yet}
+use Rattle.history.specs.History.{adds, kept-if}
+use Rattle.tools.specs.Tables.{Each}
+use Rattle.tools.proofs.Tables.{put-all, put-both, put-same, put-other, Each-map, none-some}
+use Rattle.history.proofs.Keys.{key, later-key, tick-key, turn-key}
+use Rattle.rules.specs.Model.{phases}
+use Rattle.history.proofs.Bounded.{NearRow, Bounded, mail-near, bounded-done, fresh-bounded}
+use Rattle.rules.proofs.Accepted.{no-local, no-send, no-receive, no-keep}
+use Rattle.history.specs.Vector.{Upto}
+use Rattle.history.proofs.Causal.{Origin, seen, Causal, Fits, old-desk, old-row, causal-next, below}
+
+-- event x is behind what is held
+abbrev pub Behind : Log → ℕ → Held → Type 0
+Behind h x w = (x < h .count) × (h .desk x ≡ w .by) × (h .row x ≡ w .row)
+
+-- event x is the last of a started desk; a desk that has not started has no event
+abbrev pub SeatOf : Log → ℕ → ℕ → Bool → Row → Type 0
+SeatOf h j x true ρ = (x < h .count) × (h .desk x ≡ j) × (h .row x ≡ ρ) × ((e : ℕ) → e < h .count → h .desk e ≡ j → e ≤ x)
+SeatOf h j x false ρ = (ρ ≡ zeros) × ((e : ℕ) → e < h .count → h .desk e ≡ j → ⊥)
+
+pub record Good (X : Setup) (b : Tables) (h : History) : Type 0 where
+  pub bounded : Bounded X b
+  pub causal : Causal X (h .log)
+  pub known : (f : ℕ) → f < h .log .count → (k : ℕ) → key X (h .log .row f k) ≤ key X (own b k)
+  pub seats : (j : ℕ) → SeatOf (h .log) j (h .last j) (b .seat j .started) (b .seat j .row)
+  pub mail : (p : ℕ) → Each (Behind (h .log) (h .mailed p)) (b .mail p)
+  pub shelf : (s : ℕ) → Each (Behind (h .log) (h .kept s)) (b .shelf s)
+
+module _ (X : Setup) (ok : Permitted X) (b : Tables) (h : History) (g : Good X b h) where
+  seat-clock : (j k : ℕ) → b .seat j .row k .clock < X .clocks
+  seat-clock j k = go (b .seat j .started) (g .seats j)
+    where
+      go : (t : Bool) → SeatOf (h .log) j (h .last j) t (b .seat j .row) → b .seat j .row k .clock < X .clocks
+      go true s = rw (s .2) at (g .causal .clocks (h .last j) (s .0) k)
+      go false s = rw (s .0) (let z = ok .clocks in omega arith)
+
+  seat-known : (j k : ℕ) → key X (b .seat j .row k) ≤ key X (own b k)
+  seat-known j k = go (b .seat j .started) (g .seats j)
+    where
+      go : (t : Bool) → SeatOf (h .log) j (h .last j) t (b .seat j .row) → key X (b .seat j .row k) ≤ key X (own b k)
+      go true s = rw (s .2) at (g .known (h .last j) (s .0) k)
+      go false s =
+          let z : key X (b .seat j .row k) ≡ key X (zeros k) = ap (λ (ρ : Row). key X (ρ k)) (s .0) in omega arith
+
+  seat-heard : (j e : ℕ) → e < h .log .count → seen X (h .log) e e ≤ key X (b .seat j .row (h .log .desk e))
+      → (x : ℕ) × (x < h .log .count) × Upto (h .log) e x × (h .log .desk x ≡ j)
+  seat-heard j e a l = go (b .seat j .started) (g .seats j)
+    where
+      go : (t : Bool) → SeatOf (h .log) j (h .last j) t (b .seat j .row)
+          → (x : ℕ) × (x < h .log .count) × Upto (h .log) e x × (h .log .desk x ≡ j)
+      go true s = (
+        h .last j,
+        s .0,
+        g .causal .complete e (h .last j) a (s .0)
+            (rw (s .2) l),
+        s .1,
+      )
+      go false s =
+          let z : key X (b .seat j .row (h .log .desk e)) ≡ key X (zeros (h .log .desk e)) = ap (λ (ρ : Row). key X (ρ (h .log .desk e)))
+          (s .0) in
+          let y = g .causal .positive e a in
+          absurd (omega arith)
+
+  seat-tells : (j e x : ℕ) → e < h .log .count → x < h .log .count → Upto (h .log) e x → h .log .desk x ≡ j
+      → seen X (h .log) e e ≤ key X (b .seat j .row (h .log .desk e))
+  seat-tells j e x a l u q = go (b .seat j .started) (g .seats j)
+    where
+      on : (y : ℕ) → x < y → h .log .desk y ≡ j → Upto (h .log) e x → Upto (h .log) e y
+      on y lt qy (inl z) = inr (one (desk-link {e = e} {f = y} (omega arith) (ap (h .log .desk) z ∙ q ∙ sym qy)))
+      on y lt qy (inr z) = inr (more z (desk-link lt (q ∙ sym qy)))
+
+      go : (t : Bool) → SeatOf (h .log) j (h .last j) t (b .seat j .row) → seen X (h .log) e e ≤ key X (b .seat j .row (h .log .desk e))
+      go true s = rw (s .2) at (g .causal .sound e (h .last j) a (s .0) (to (ℕ-discrete x (h .last j))))
+        where
+          to : Dec (x ≡ h .last j) → Upto (h .log) e (h .last j)
+          to (yes z) = subst (λ y. Upto (h .log) e y) z u
+          to (no z) = on (h .last j) (let w = s .3 x l q in omega arith) (s .1) u
+      go false s = absurd (s .1 x l q)
+
+  seat-from : (j k : ℕ) → Origin (h .log) k (b .seat j .row k)
+  seat-from j k = go (b .seat j .started) (g .seats j)
+    where
+      go : (t : Bool) → SeatOf (h .log) j (h .last j) t (b .seat j .row) → Origin (h .log) k (b .seat j .row k)
+      go true s = subst (λ (ρ : Row). Origin (h .log) k (ρ k)) (s .2) (g .causal .origin (h .last j) (s .0) k)
+      go false s = inl (ap (λ (ρ : Row). ρ k) (s .0))
+
+  -- an event that hears of nothing: r is j's row with another own pair
+  plain : (w : Kind) → cause w ≡ none → (j : ℕ) (q : Pair) → key X (own b j) < key X q → q .clock < X .clocks
+      → Fits X (h .log) j w (put (b .seat j .row) j q)
+  plain w no-cause j q l m =
+      record {
+        small = put-all (λ k (p : Pair). p .clock < X .clocks) (b .seat j .row) j q m (λ k ne. seat-clock j k);
+        sent = rw no-cause tt;
+        ahead = λ f a. rw (put-same (b .seat j .row) j q) (let z = g .known f a j in omega arith);
+        first = rw (put-same (b .seat j .row) j q) (omega arith);
+        from = λ k ne. rw (put-other (b .seat j .row) j q k ne) (seat-from j k);
+        tells = λ e x a c u k ne. rw (put-other (b .seat j .row) j q (h .log .desk e) ne) (go e x a c u k);
+        heard = λ e a ne k.
+            let s = seat-heard j e a (rw (put-other (b .seat j .row) j q (h .log .desk e) ne) at k) in
+            (s .0, s .1, s .2, inl (s .3));
+      }
+    where
+      go : (e x : ℕ) → e < h .log .count → x < h .log .count → Upto (h .log) e x → (h .log .desk x ≡ j) ⊎ (cause w ≡ some x)
+          → seen X (h .log) e e ≤ key X (b .seat j .row (h .log .desk e))
+      go e x a c u (inl z) = seat-tells j e x a c u z
+      go e x a c u (inr z) = absurd (none-some (sym no-cause ∙ z))
+
+  plain-known : (j : ℕ) (q : Pair) (k : ℕ) → (k ≡ j → ⊥) → key X (put (b .seat j .row) j q k) ≤ key X (own b k)
+  plain-known j q k ne = rw (put-other (b .seat j .row) j q k ne) (seat-known j k)
+
+  -- the later of two pairs: it is one of them, and at least both
+  later-is : (o : ℕ) (x y : Pair) → x .phase ≤ o → y .phase ≤ o → x .clock < X .clocks → y .clock < X .clocks
+      → (key X x ≤ key X (later line o x y)) × (key X y ≤ key X (later line o x y))
+      × ((later line o x y ≡ x) ⊎ (later line o x y ≡ y))
+  later-is o x y a c d e = go (isLater line o y x) (later-key X o x y a c d e)
+    where
+      go : (t : Bool) → t ≡ ltb (key X x) (key X y)
+          → (key X x ≤ key X (pick t y x)) × (key X y ≤ key X (pick t y x)) × ((pick t y x ≡ x) ⊎ (pick t y x ≡ y))
+      go true p = let z = ltb-true (key X x) (key X y) (sym p) in (omega arith, omega arith, inr refl)
+      go false p = let z = ltb-false (key X x) (key X y) (sym p) in (omega arith, omega arith, inl refl)
+
+  module _ (j x : ℕ) (m : Row) (lj : j < X .desks) (lx : x < h .log .count) (is : h .log .row x ≡ m)
+      (near : NearRow (phases b) (2 * X .seatLag) m) where
+    m-clock : (k : ℕ) → m k .clock < X .clocks
+    m-clock k = rw is at (g .causal .clocks x lx k)
+
+    at-k : (k : ℕ) → (key X (b .seat j .row k) ≤ key X (later line (phases b k) (b .seat j .row k) (m k)))
+        × (key X (m k) ≤ key X (later line (phases b k) (b .seat j .row k) (m k)))
+        × ((later line (phases b k) (b .seat j .row k) (m k) ≡ b .seat j .row k) ⊎ (later line (phases b k) (b .seat j .row k) (m k) ≡ m k))
+    at-k k =
+        later-is (phases b k) (b .seat j .row k) (m k) (g .bounded .seats j lj k .0) (near k .0) (seat-clock j k) (m-clock k)
+
+    r-other : (k : ℕ) → (k ≡ j → ⊥) → merged line b j m k ≡ later line (phases b k) (b .seat j .row k) (m k)
+    r-other k ne = put-other (λ k. later line (phases b k) (b .seat j .row k) (m k)) j (tick (own b j)) k ne
+
+    r-own : merged line b j m j ≡ tick (own b j)
+    r-own = put-same (λ k. later line (phases b k) (b .seat j .row k) (m k)) j (tick (own b j))
+
+    mail-known : (k : ℕ) → key X (m k) ≤ key X (own b k)
+    mail-known k = rw is at (g .known x lx k)
+
+    merged-known : (k : ℕ) → (k ≡ j → ⊥) → key X (merged line b j m k) ≤ key X (own b k)
+    merged-known k ne = rw (r-other k ne) (go (at-k k .2))
+      where
+        go
+            : ((later line (phases b k) (b .seat j .row k) (m k) ≡ b .seat j .row k)
+            ⊎ (later line (phases b k) (b .seat j .row k) (m k) ≡ m k))
+            → key X (later line (phases b k) (b .seat j .row k) (m k)) ≤ key X (own b k)
+        go (inl z) = rw z (seat-known j k)
+        go (inr z) = rw z (mail-known k)
+
+    merging : own b j .clock + 1 < X .clocks → Fits X (h .log) j (Receive x) (merged line b j m)
+    merging lc =
+        record {
+          small = put-all (λ k (p : Pair). p .clock < X .clocks) (λ k. later line (phases b k) (b .seat j .row k) (m k)) j (tick (own b j))
+              (omega arith) (λ k ne. small k (at-k k .2));
+          sent = lx;
+          ahead = λ f a. rw r-own (let z = g .known f a j in omega arith);
+          first = rw r-own (omega arith);
+          from = λ k ne. rw (r-other k ne) (from k (at-k k .2));
+          tells = λ e y a c u k ne. rw (r-other (h .log .desk e) ne) (tells e y a c u k);
+          heard = λ e a ne k. heard e a (at-k (h .log .desk e) .2) (rw (r-other (h .log .desk e) ne) at k);
+        }
+      where
+        small : (k : ℕ)
+            → ((later line (phases b k) (b .seat j .row k) (m k) ≡ b .seat j .row k)
+            ⊎ (later line (phases b k) (b .seat j .row k) (m k) ≡ m k))
+            → later line (phases b k) (b .seat j .row k) (m k) .clock < X .clocks
+        small k (inl z) = rw z (seat-clock j k)
+        small k (inr z) = rw z (m-clock k)
+
+        from : (k : ℕ)
+            → ((later line (phases b k) (b .seat j .row k) (m k) ≡ b .seat j .row k)
+            ⊎ (later line (phases b k) (b .seat j .row k) (m k) ≡ m k))
+            → Origin (h .log) k (later line (phases b k) (b .seat j .row k) (m k))
+        from k (inl z) = rw z (seat-from j k)
+        from k (inr z) = rw z (subst (λ (ρ : Row). Origin (h .log) k (ρ k)) is (g .causal .origin x lx k))
+
+        tells : (e y : ℕ) → e < h .log .count → y < h .log .count → Upto (h .log) e y → (h .log .desk y ≡ j) ⊎ (some x ≡ some y)
+            → seen X (h .log) e e ≤ key X (later line (phases b (h .log .desk e)) (b .seat j .row (h .log .desk e)) (m (h .log .desk e)))
+        tells e y a c u (inl z) = let p = seat-tells j e y a c u z in let q = at-k (h .log .desk e) .0 in omega arith
+        tells e y a c u (inr z) =
+            let p : seen X (h .log) e e ≤ seen X (h .log) e x = g .causal .sound e x a lx
+            (subst (λ v. Upto (h .log) e v) (let s : y ≡ x = cc in s) u) in
+            let p′ : seen X (h .log) e e ≤ key X (m (h .log .desk e)) = rw is at p in
+            let q = at-k (h .log .desk e) .1 in
+            omega arith
+
+        heard : (e : ℕ) → e < h .log .count
+            → ((later line (phases b (h .log .desk e)) (b .seat j .row (h .log .desk e)) (m (h .log .desk e))
+            ≡ b .seat j .row (h .log .desk e))
+            ⊎ (later line (phases b (h .log .desk e)) (b .seat j .row (h .log .desk e)) (m (h .log .desk e)) ≡ m (h .log .desk e)))
+            → seen X (h .log) e e ≤ key X (later line (phases b (h .log .desk e)) (b .seat j .row (h .log .desk e)) (m (h .log .desk e)))
+            → (v : ℕ) × (v < h .log .count) × Upto (h .log) e v × ((h .log .desk v ≡ j) ⊎ (some x ≡ some v))
+        heard e a (inl z) k = let s = seat-heard j e a (rw z at k) in (s .0, s .1, s .2, inl (s .3))
+        heard e a (inr z) k = (x, lx, g .causal .complete e x a lx (rw is (rw z at k)), inr refl)
+
+  -- one event more
+  module _ (j : ℕ) (w : Kind) (r : Row) (fit : Fits X (h .log) j w r)
+      (less : (k : ℕ) → (k ≡ j → ⊥) → key X (r k) ≤ key X (own b k)) where
+    behind-up : (x : ℕ) (o : Option Held) → Each (Behind (h .log) x) o → Each (Behind (logged (h .log) j w r) x) o
+    behind-up x o =
+        Each-map (λ m s. (
+          let z = s .0 in omega arith,
+          old-desk X (h .log) (g .causal) j w r fit x (s .0) ∙ s .1,
+          old-row X (h .log) (g .causal) j w r fit x (s .0) ∙ s .2,
+        )) o
+
+    seat-up : (i x : ℕ) (t : Bool) (ρ : Row) → (i ≡ j → ⊥) → SeatOf (h .log) i x t ρ → SeatOf (logged (h .log) j w r) i x t ρ
+    seat-up i x true ρ ne s = (
+      let z = s .0 in omega arith,
+      old-desk X (h .log) (g .causal) j w r fit x (s .0) ∙ s .1,
+      old-row X (h .log) (g .causal) j w r fit x (s .0) ∙ s .2,
+      λ e l. below (λ e. (logged (h .log) j w r) .desk e ≡ i → e ≤ x) (h .log .count) e l
+          (λ l q. s .3 e l (sym (old-desk X (h .log) (g .causal) j w r fit e l) ∙ q))
+          (λ q. absurd (ne (sym q ∙ put-same (h .log .desk) (h .log .count) j))),
+    )
+    seat-up i x false ρ ne s = (
+      s .0,
+      λ e l. below (λ e. (logged (h .log) j w r) .desk e ≡ i → ⊥) (h .log .count) e l
+          (λ l q. s .1 e l (sym (old-desk X (h .log) (g .causal) j w r fit e l) ∙ q))
+          (λ q. ne (sym q ∙ put-same (h .log .desk) (h .log .count) j)),
+    )
+
+    good-event : (mail : ℕ → Option Held) (mailed : ℕ → ℕ)
+        → Bounded X (record { seat = seated b j r; mail = mail; shelf = b .shelf })
+        → ((p : ℕ) → Each (Behind (logged (h .log) j w r) (mailed p)) (mail p))
+        → Good X (record { seat = seated b j r; mail = mail; shelf = b .shelf }) (noted h j w r mailed)
+    good-event mail mailed bd posts =
+        record {
+          bounded = bd;
+          causal = causal-next X (h .log) (g .causal) j w r fit;
+          known =
+              λ f l. below (λ f. (k : ℕ) → key X ((logged (h .log) j w r) .row f k) ≤ key X ((seated b j r k) .row k)) (h .log .count) f l
+              (λ l k. rw (old-row X (h .log) (g .causal) j w r fit f l)
+              (put-all (λ k (s : Seat). key X (h .log .row f k) ≤ key X (s .row k)) (b .seat) j (record { started = true; row = r })
+              (let z = fit .ahead f l in omega arith) (λ k ne. g .known f l k) k))
+              (λ k. rw (put-same (h .log .row) (h .log .count) r)
+              (put-all (λ k (s : Seat). key X (r k) ≤ key X (s .row k)) (b .seat) j (record { started = true; row = r })
+              (omega arith) less k));
+          seats = put-both (λ i (s : Seat) x. SeatOf (logged (h .log) j w r) i x (s .started) (s .row)) (b .seat) (h .last) j
+              (record { started = true; row = r }) (h .log .count)
+              (omega arith, put-same (h .log .desk) (h .log .count) j, put-same (h .log .row) (h .log .count) r, λ e l q. omega arith)
+              (λ i ne. seat-up i (h .last i) (b .seat i .started) (b .seat i .row) ne (g .seats i));
+          mail = posts;
+          shelf = λ s. behind-up (h .kept s) (b .shelf s) (g .shelf s);
+        }
+
+  mail-of : (p : ℕ) → used (b .mail p) ≡ true → (h .mailed p < h .log .count) × (h .log .row (h .mailed p) ≡ rowIn (b .mail p))
+  mail-of p u = go (b .mail p) (g .mail p) u
+    where
+      go : (o : Option Held) → Each (Behind (h .log) (h .mailed p)) o → used o ≡ true
+          → (h .mailed p < h .log .count) × (h .log .row (h .mailed p) ≡ rowIn o)
+      go none n u = absurd (mathlib.Core.Bool.false≢true u)
+      go (some m) n u = (n .0, n .2)
+
+  seat-event : (j : ℕ) → b .seat j .started ≡ true
+      → (h .last j < h .log .count) × (h .log .desk (h .last j) ≡ j) × (h .log .row (h .last j) ≡ b .seat j .row)
+  seat-event j u = go (b .seat j .started) (g .seats j) u
+    where
+      go : (t : Bool) → SeatOf (h .log) j (h .last j) t (b .seat j .row) → t ≡ true
+          → (h .last j < h .log .count) × (h .log .desk (h .last j) ≡ j) × (h .log .row (h .last j) ≡ b .seat j .row)
+      go true s u = (s .0, s .1, s .2)
+      go false s u = absurd (mathlib.Core.Bool.false≢true u)
+
+  good-done : (c : Act) → why line X b c ≡ 0 → Bounded X ((done line X b c) .tables) → Good X ((done line X b c) .tables) (adds h b c)
+  unfolding done adds
+  good-done (local j) e bd =
+      let n = no-local line X b j e in
+      let fit = plain Local refl j (tick (own b j)) (tick-key X (own b j)) (n .1) in
+      good-event j Local (grown b j) fit (plain-known j (tick (own b j))) (b .mail) (h .mailed) bd
+      (λ p. behind-up j Local (grown b j) fit (plain-known j (tick (own b j))) (h .mailed p) (b .mail p) (g .mail p))
+  good-done (send j k) e bd =
+      let n = no-send line X b j k e in
+      let fit = plain Send refl j (tick (own b j)) (tick-key X (own b j)) (n .1) in
+      good-event j Send (grown b j) fit (plain-known j (tick (own b j))) _ _ bd
+      (put-both (λ p (o : Option Held) x. Each (Behind (logged (h .log) j Send (grown b j)) x) o) (b .mail) (h .mailed) (freeMail b)
+      (some record { by = j; to = k; row = grown b j }) (h .log .count)
+      (omega arith, put-same (h .log .desk) (h .log .count) j, put-same (h .log .row) (h .log .count) (grown b j))
+      (λ p ne. behind-up j Send (grown b j) fit (plain-known j (tick (own b j))) (h .mailed p) (b .mail p) (g .mail p)))
+  good-done (receive j p) e bd =
+      let n = no-receive line X b j p e in
+      let m = mail-of p (n .1) in
+      let near = mail-near X ok b (g .bounded) p (n .1) in
+      let fit = merging j (h .mailed p) (rowIn (b .mail p)) (n .0) (m .0) (m .1) near (n .2) in
+      let less = merged-known j (h .mailed p) (rowIn (b .mail p)) (n .0) (m .0) (m .1) near in
+      good-event j (Receive (h .mailed p)) (merged line b j (rowIn (b .mail p))) fit less (put (b .mail) p none) (h .mailed) bd
+      (put-all (λ q (o : Option Held).
+      Each (Behind (logged (h .log) j (Receive (h .mailed p)) (merged line b j (rowIn (b .mail p)))) (h .mailed q)) o) (b .mail) p none tt
+      (λ q ne. behind-up j (Receive (h .mailed p)) (merged line b j (rowIn (b .mail p))) fit less (h .mailed q) (b .mail q) (g .mail q)))
+  good-done (reset j) e bd =
+      let l = ok .clocks in
+      let fit = plain Reset refl j (turn line (own b j)) (turn-key X (own b j) (seat-clock j j)) (omega arith) in
+      good-event j Reset (turned line b j) fit (plain-known j (turn line (own b j))) (b .mail) (h .mailed) bd
+      (λ p. behind-up j Reset (turned line b j) fit (plain-known j (turn line (own b j))) (h .mailed p) (b .mail p) (g .mail p))
+  good-done (keep j) e bd =
+      let n = no-keep line X b j e in
+      record {
+        bounded = bd;
+        causal = g .causal;
+        known = g .known;
+        seats = g .seats;
+        mail = g .mail;
+        shelf = put-both (λ s (o : Option Held) x. Each (Behind (h .log) x) o) (b .shelf) (h .kept) (freeSlot b)
+            (some record { by = j; to = 0; row = b .seat j .row }) (h .last j) (seat-event j (n .1)) (λ s ne. g .shelf s);
+      }
+  good-done (drop s) e bd =
+      record {
+        bounded = bd;
+        causal = g .causal;
+        known = g .known;
+        seats = g .seats;
+        mail = g .mail;
+        shelf = put-all (λ t (o : Option Held). Each (Behind (h .log) (h .kept t)) o) (b .shelf) s none tt (λ t ne. g .shelf t);
+      }
+  good-done (discard p) e bd =
+      record {
+        bounded = bd;
+        causal = g .causal;
+        known = g .known;
+        seats = g .seats;
+        shelf = g .shelf;
+        mail = put-all (λ t (o : Option Held). Each (Behind (h .log) (h .mailed t)) o) (b .mail) p none tt (λ t ne. g .mail t);
+      }
+  good-done (before s t) e bd = g
+  good-done (compare s t) e bd = g
+  good-done (show s) e bd = g
+  good-done (write s room) e bd = g
+
+pub good-next : (X : Setup) → Permitted X → (b : Tables) (h : History) → Good X b h → (c : Act)
+    → Good X ((step line X b c) .tables) (kept-if (why line X b c) h (adds h b c))
+unfolding step
+good-next X ok b h g c = go (why line X b c) refl
+  where
+    go : (n : ℕ) → why line X b c ≡ n → Good X ((settle n b (done line X b c)) .tables) (kept-if n h (adds h b c))
+    go zero e = good-done X ok b h g c e (bounded-done X ok b (g .bounded) c e)
+    go (suc n) e = g
+
+pub good-begin : (X : Setup) → Good X fresh none-yet
+good-begin X =
+    record {
+      bounded = fresh-bounded X;
+      causal = record {
+        clocks = λ e l. absurd (omega arith);
+        caused = λ e l. absurd (omega arith);
+        positive = λ e l. absurd (omega arith);
+        sound = λ e f l. absurd (omega arith);
+        complete = λ e f l. absurd (omega arith);
+        origin = λ f l. absurd (omega arith);
+      };
+      known = λ f l. absurd (omega arith);
+      seats = λ j. (refl, λ e l. absurd (omega arith));
+      mail = λ p. tt;
+      shelf = λ s. tt;
+    }

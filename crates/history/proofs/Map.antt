@@ -1,0 +1,198 @@
+-- One simulation for every map of phases: where the map keeps the lags of a book and goes with next, every call on the mapped
+-- book answers by the same number and leaves the mapped result.
+-- Assumes nothing.
+use mathlib.Core.Path.{_≡_, refl, ap, sym, _∙_, fun-ext}
+use mathlib.Core.Bool.{Bool, true, not, _&&_}
+use mathlib.Core.Option.{Option, none, some}
+use Prim.Native.Nat.{ℕ, zero, suc, _*_, _<_}
+use lib.Dec.{eqb}
+use Rattle.ring.specs.Phases.{Phases, Pair, isLater, later}
+use Rattle.rules.specs.declared.Setup.{Setup}
+use Rattle.tools.specs.Tests.{pick}
+use Rattle.tools.specs.Tables.{put}
+use Rattle.rules.specs.Model.{Row, Seat, Held, Tables, Act, local, reset, keep, drop, discard, show, send, receive, before, compare}
+use Rattle.rules.specs.Model.{write, Value, nothing, stamp, sent, slot, shows, accepted, step, done, reasons, why, filing, telling}
+use Rattle.rules.specs.Model.{grown, merged, turned, event, freeMail, freeSlot, rowIn, byIn, toIn, used, own, lags, tick, turn}
+use Rattle.rules.specs.Model.{settle, gapHeld, near}
+use Rattle.history.specs.Round.{mapPair, mapRow, mapSeat, mapHeld, mapTables, mapValue, mapResult}
+use Rattle.tools.specs.Tables.{Each}
+use Rattle.tools.proofs.Tests.{pick-ap, any-cong}
+use Rattle.tools.proofs.Tables.{put-both}
+use Rattle.rules.specs.Model.{phases}
+use Rattle.rules.proofs.Accepted.{no-receive, no-show, no-write}
+
+-- the lag of v at desk k is the same before and after the map
+abbrev pub Keeps : Phases → Phases → (ℕ → ℕ → ℕ) → Tables → ℕ → ℕ → Type 0
+Keeps Z Y φ b k v = Z .lag (φ k (phases b k)) (φ k v) ≡ Y .lag (phases b k) v
+
+pub record Agrees (Z Y : Phases) (φ : ℕ → ℕ → ℕ) (X : Setup) (b : Tables) : Type 0 where
+  pub nexts : (k v : ℕ) → Z .next (φ k v) ≡ φ k (Y .next v)
+  pub seats : (s k : ℕ) → s < X .desks → Keeps Z Y φ b k (b .seat s .row k .phase)
+  pub mail : (p : ℕ) → Each (λ w. (p < 32) × ((k : ℕ) → Keeps Z Y φ b k (w .row k .phase))) (b .mail p)
+  pub shelf : (s : ℕ) → Each (λ w. (s < 32) × ((k : ℕ) → Keeps Z Y φ b k (w .row k .phase))) (b .shelf s)
+
+pub used-map : (φ : ℕ → ℕ → ℕ) (o : Option Held) → used (mapHeld φ o) ≡ used o
+used-map φ none = refl
+used-map φ (some w) = refl
+
+to-map : (φ : ℕ → ℕ → ℕ) (o : Option Held) → toIn (mapHeld φ o) ≡ toIn o
+to-map φ none = refl
+to-map φ (some w) = refl
+
+by-map : (φ : ℕ → ℕ → ℕ) (o : Option Held) → byIn (mapHeld φ o) ≡ byIn o
+by-map φ none = refl
+by-map φ (some m) = refl
+
+clock-map : (φ : ℕ → ℕ → ℕ) (o : Option Held) (k : ℕ) → rowIn (mapHeld φ o) k .clock ≡ rowIn o k .clock
+clock-map φ none k = refl
+clock-map φ (some m) k = refl
+
+row-map : (φ : ℕ → ℕ → ℕ) (o : Option Held) → used o ≡ true → rowIn (mapHeld φ o) ≡ mapRow φ (rowIn o)
+row-map φ none u = absurd (mathlib.Core.Bool.false≢true u)
+row-map φ (some m) u = refl
+
+module _ (Z Y : Phases) (φ : ℕ → ℕ → ℕ) (X : Setup) (b : Tables) (w : Agrees Z Y φ X b) where
+  lag-held : (j B p : ℕ) (o : Option Held) → Each (λ w. (p < 32) × ((k : ℕ) → Keeps Z Y φ b k (w .row k .phase))) o
+      → lags Z (mapTables φ b) j B (mapHeld φ o) ≡ lags Y b j B o
+  lag-held j B p none n = refl
+  lag-held j B p (some m) n = ap (λ l. eqb l B) (n .1 j)
+
+  gap-held : (s t : ℕ) → gapHeld Z X (mapTables φ b) (mapHeld φ (b .shelf s)) (mapHeld φ (b .shelf t))
+      ≡ gapHeld Y X b (b .shelf s) (b .shelf t)
+  gap-held s t = go (b .shelf s) (b .shelf t) (w .shelf s) (w .shelf t)
+    where
+      go : (e f : Option Held) → Each (λ w. (s < 32) × ((k : ℕ) → Keeps Z Y φ b k (w .row k .phase))) e
+          → Each (λ w. (t < 32) × ((k : ℕ) → Keeps Z Y φ b k (w .row k .phase))) f
+          → gapHeld Z X (mapTables φ b) (mapHeld φ e) (mapHeld φ f) ≡ gapHeld Y X b e f
+      go none f p q = refl
+      go (some e) none p q = refl
+      go (some e) (some f) p q = ap (near X) (λ i. record { up = p .1 (e .by) i; down = q .1 (e .by) i })
+
+  why-map : (c : Act) → why Z X (mapTables φ b) c ≡ why Y X b c
+  unfolding reasons
+  why-map (local j) = refl
+  why-map (send j k) = simp used-map
+  why-map (receive j p) = simp (used-map, to-map)
+  why-map (reset j) =
+      let p = any-cong (X .desks) (λ s. not (eqb s j) && eqb (Z .lag (φ j (phases b j)) (φ j (b .seat s .row j .phase))) (X .seatLag))
+      (λ s. not (eqb s j) && eqb (Y .lag (phases b j) (b .seat s .row j .phase)) (X .seatLag))
+      (λ s l. ap (λ x. not (eqb s j) && eqb x (X .seatLag)) (w .seats s j l)) in
+      let q = any-cong 32 (λ p. lags Z (mapTables φ b) j (2 * X .seatLag) (mapHeld φ (b .mail p)))
+      (λ p. lags Y b j (2 * X .seatLag) (b .mail p)) (λ p l. lag-held j (2 * X .seatLag) p (b .mail p) (w .mail p)) in
+      let r = any-cong 32 (λ p. lags Z (mapTables φ b) j (X .shelfLag) (mapHeld φ (b .shelf p)))
+      (λ p. lags Y b j (X .shelfLag) (b .shelf p)) (λ p l. lag-held j (X .shelfLag) p (b .shelf p) (w .shelf p)) in
+      rw (p, q, r)
+  why-map (keep j) = simp used-map
+  why-map (drop s) = simp used-map
+  why-map (discard p) = simp used-map
+  why-map (before s t) = rw (gap-held s t) (simp used-map)
+  why-map (compare s t) = rw (gap-held s t, gap-held t s) (simp used-map)
+  why-map (show s) = simp used-map
+  why-map (write s room) = simp used-map
+
+  event-map : (j : ℕ) (r r′ : Row) (m m′ : ℕ → Option Held) (v v′ : Value)
+      → r ≡ mapRow φ r′ → m ≡ (λ p. mapHeld φ (m′ p)) → v ≡ mapValue φ v′
+      → event (mapTables φ b) j r m v ≡ mapResult φ (event b j r′ m′ v′)
+  event-map j r r′ m m′ v v′ er em ev =
+      λ i. record {
+        answer = accepted (ev i);
+        tables = record { seat = seats i; mail = em i; shelf = λ s. mapHeld φ (b .shelf s) };
+      }
+    where
+      seats : _≡_ {A = ℕ → Seat} (λ s. pick (eqb s j) (record { started = true; row = r }) (mapSeat φ (b .seat s)))
+          (λ s. mapSeat φ (pick (eqb s j) (record { started = true; row = r′ }) (b .seat s)))
+      seats =
+          fun-ext (λ s. ap (λ (r : Row). pick {A = Seat} (eqb s j) (record { started = true; row = r }) (mapSeat φ (b .seat s))) er
+          ∙ sym (pick-ap (mapSeat φ) (eqb s j) (record { started = true; row = r′ }) (b .seat s)))
+
+  put-held : (f : ℕ → Option Held) (k : ℕ) (v : Option Held)
+      → put (λ p. mapHeld φ (f p)) k (mapHeld φ v) ≡ (λ p. mapHeld φ (put f k v p))
+  put-held f k v = fun-ext (λ p. sym (pick-ap (mapHeld φ) (eqb p k) v (f p)))
+
+  -- rows that agree but for one column, where they agree too
+  put-row : (r r′ : Row) (j : ℕ) (q q′ : Pair) → q ≡ mapPair (φ j) q′ → ((k : ℕ) → r k ≡ mapPair (φ k) (r′ k))
+      → put r j q ≡ mapRow φ (put r′ j q′)
+  put-row r r′ j q q′ e h = fun-ext (put-both (λ k (a p : Pair). a ≡ mapPair (φ k) p) r r′ j q q′ e (λ k ne. h k))
+
+  grown-map : (j : ℕ) → grown (mapTables φ b) j ≡ mapRow φ (grown b j)
+  grown-map j = put-row (mapRow φ (b .seat j .row)) (b .seat j .row) j _ (tick (own b j)) refl (λ k. refl)
+
+  turned-map : (j : ℕ) → turned Z (mapTables φ b) j ≡ mapRow φ (turned Y b j)
+  turned-map j =
+      put-row (mapRow φ (b .seat j .row)) (b .seat j .row) j _ (turn Y (own b j))
+      (λ i. record { phase = w .nexts j (phases b j) i; clock = 0 }) (λ k. refl)
+
+  later-map : (k : ℕ) (x y : Pair) → Keeps Z Y φ b k (x .phase) → Keeps Z Y φ b k (y .phase)
+      → isLater Z (φ k (phases b k)) (mapPair (φ k) y) (mapPair (φ k) x) ≡ isLater Y (phases b k) y x
+  later-map k x y p q = rw (p, q)
+
+  merged-map : (j : ℕ) → j < X .desks → (m : Row) → ((k : ℕ) → Keeps Z Y φ b k (m k .phase))
+      → merged Z (mapTables φ b) j (mapRow φ m) ≡ mapRow φ (merged Y b j m)
+  merged-map j h m n =
+      put-row (λ k. later Z (φ k (phases b k)) (mapPair (φ k) (b .seat j .row k)) (mapPair (φ k) (m k)))
+      (λ k. later Y (phases b k) (b .seat j .row k) (m k)) j _ (tick (own b j)) refl
+      (λ k. rw (later-map k (b .seat j .row k) (m k) (w .seats j k h) (n k))
+      (sym (pick-ap (mapPair (φ k)) (isLater Y (phases b k) (m k) (b .seat j .row k)) (m k) (b .seat j .row k))))
+
+  mail-keeps : (p : ℕ) → used (b .mail p) ≡ true → (k : ℕ) → Keeps Z Y φ b k (rowIn (b .mail p) k .phase)
+  mail-keeps p u = go (b .mail p) (w .mail p) u
+    where
+      go : (o : Option Held) → Each (λ w. (p < 32) × ((k : ℕ) → Keeps Z Y φ b k (w .row k .phase))) o → used o ≡ true
+          → (k : ℕ) → Keeps Z Y φ b k (rowIn o k .phase)
+      go none n u = absurd (mathlib.Core.Bool.false≢true u)
+      go (some m) n u = n .1
+
+  free-mail : freeMail (mapTables φ b) ≡ freeMail b
+  free-mail = simp used-map
+
+  free-slot : freeSlot (mapTables φ b) ≡ freeSlot b
+  free-slot = simp used-map
+
+  done-map : (c : Act) → why Y X b c ≡ 0 → done Z X (mapTables φ b) c ≡ mapResult φ (done Y X b c)
+  unfolding done
+  done-map (local j) e =
+      event-map j _ (grown b j) _ (b .mail) _ (stamp j (grown b j)) (grown-map j) refl (ap (stamp j) (grown-map j))
+  done-map (send j k) e =
+      event-map j _ (grown b j) _ (put (b .mail) (freeMail b) (some record { by = j; to = k; row = grown b j })) _
+      (sent (freeMail b) j (grown b j)) (grown-map j)
+      ((λ i. put (λ p. mapHeld φ (b .mail p)) (free-mail i) (some record { by = j; to = k; row = grown-map j i }))
+      ∙ put-held (b .mail) (freeMail b) (some record { by = j; to = k; row = grown b j }))
+      (λ i. sent (free-mail i) j (grown-map j i))
+  done-map (receive j p) e =
+      let n = no-receive Y X b j p e in
+      let q = ap (merged Z (mapTables φ b) j) (row-map φ (b .mail p) (n .1))
+      ∙ merged-map j (n .0) (rowIn (b .mail p)) (mail-keeps p (n .1)) in
+      event-map j _ (merged Y b j (rowIn (b .mail p))) _ (put (b .mail) p none) _ (stamp j (merged Y b j (rowIn (b .mail p))))
+      q (put-held (b .mail) p none) (ap (stamp j) q)
+  done-map (reset j) e =
+      event-map j _ (turned Y b j) _ (b .mail) _ (stamp j (turned Y b j)) (turned-map j) refl (ap (stamp j) (turned-map j))
+  done-map (keep j) e =
+      λ i. filing (mapTables φ b) ((mapTables φ b) .mail) (kept i) (slot (free-slot i))
+    where
+      kept : _≡_ {A = ℕ → Option Held}
+          (put (λ s. mapHeld φ (b .shelf s)) (freeSlot (mapTables φ b)) (some record { by = j; to = 0; row = mapRow φ (b .seat j .row) }))
+          (λ s. mapHeld φ (put (b .shelf) (freeSlot b) (some record { by = j; to = 0; row = b .seat j .row }) s))
+      kept =
+          (λ i. put (λ s. mapHeld φ (b .shelf s)) (free-slot i) (some record { by = j; to = 0; row = mapRow φ (b .seat j .row) }))
+          ∙ put-held (b .shelf) (freeSlot b) (some record { by = j; to = 0; row = b .seat j .row })
+  done-map (drop s) e =
+      λ i. filing (mapTables φ b) ((mapTables φ b) .mail) (put-held (b .shelf) s none i) nothing
+  done-map (discard p) e =
+      λ i. filing (mapTables φ b) (put-held (b .mail) p none i) ((mapTables φ b) .shelf) nothing
+  done-map (before s t) e = simp (gap-held s t, by-map, clock-map)
+  done-map (compare s t) e = simp (gap-held s t, gap-held t s, by-map, clock-map)
+  done-map (show s) e = ap (λ (r : Row). telling (mapTables φ b) (shows r)) (row-map φ (b .shelf s) (no-show Y X b s e .0))
+  done-map (write s room) e =
+      λ i. telling (mapTables φ b)
+      (stamp (by-map φ (b .shelf s) i) (row-map φ (b .shelf s) (no-write Y X b s room e .0) i))
+
+  -- THE SIMULATION, one call
+  pub step-map : (c : Act) → step Z X (mapTables φ b) c ≡ mapResult φ (step Y X b c)
+  unfolding step
+  step-map c =
+      ap (λ n. settle n (mapTables φ b) (done Z X (mapTables φ b) c)) (why-map c) ∙ go (why Y X b c) refl
+    where
+      go : (n : ℕ) → why Y X b c ≡ n
+          → settle n (mapTables φ b) (done Z X (mapTables φ b) c) ≡ mapResult φ (settle n b (done Y X b c))
+      go zero e = done-map c e
+      go (suc n) e = refl

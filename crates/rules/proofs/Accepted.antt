@@ -1,0 +1,88 @@
+-- What an accepted act was not refused by: each law takes apart that no reason was given.
+-- Assumes nothing.
+use mathlib.Core.Path.{_≡_}
+use mathlib.Core.Bool.{true, false, not, _&&_, _||_}
+use Prim.Native.Nat.{ℕ, _+_, _*_, _<_}
+use lib.Dec.{ltb, eqb}
+use borrow.Author.Tests.{eqb-false, ltb-true}
+use Rattle.tools.specs.Tests.{any}
+use Rattle.tools.proofs.Tests.{any-false, not-off, and-true-l, and-true-r, or-false-l, or-false-r}
+use Rattle.tools.proofs.Reasons.{clear}
+use Rattle.ring.specs.Phases.{Phases}
+use Rattle.rules.specs.declared.Setup.{Setup}
+use Rattle.rules.specs.Model.{Tables, local, reset, keep, show, send, receive, write, reasons, why, freeMail, freeSlot}
+use Rattle.rules.specs.Model.{toIn, used, own, lags, seatLags}
+
+pub no-local : (Z : Phases) (X : Setup) (b : Tables) (j : ℕ) → why Z X b (local j) ≡ 0 → (j < X .desks) × (own b j .clock + 1 < X .clocks)
+unfolding reasons
+no-local Z X b j e =
+    let a = clear (not (ltb j (X .desks))) 2 _ e in
+    let c = clear (not (ltb (own b j .clock + 1) (X .clocks))) 7 _ (a .1) in
+    (ltb-true _ _ (not-off _ (a .0)), ltb-true _ _ (not-off _ (c .0)))
+
+pub no-send : (Z : Phases) (X : Setup) (b : Tables) (j k : ℕ) → why Z X b (send j k) ≡ 0
+    → (j < X .desks) × (own b j .clock + 1 < X .clocks) × (freeMail b < 32) × (k < X .desks) × (j ≡ k → ⊥)
+unfolding reasons
+no-send Z X b j k e =
+    let a = clear (not (ltb j (X .desks)) || not (ltb k (X .desks))) 2 _ e in
+    let c = clear (eqb j k) 3 _ (a .1) in
+    let d = clear (not (ltb (own b j .clock + 1) (X .clocks))) 7 _ (c .1) in
+    let f = clear (not (ltb (freeMail b) 32)) 8 _ (d .1) in (
+      ltb-true _ _ (not-off _ (or-false-l _ _ (a .0))),
+      ltb-true _ _ (not-off _ (d .0)),
+      ltb-true _ _ (not-off _ (f .0)),
+      ltb-true _ _ (not-off _ (or-false-r (not (ltb j (X .desks))) _ (a .0))),
+      eqb-false _ _ (c .0),
+    )
+
+pub no-receive : (Z : Phases) (X : Setup) (b : Tables) (j p : ℕ) → why Z X b (receive j p) ≡ 0
+    → (j < X .desks) × (used (b .mail p) ≡ true) × (own b j .clock + 1 < X .clocks) × (p < 32)
+unfolding reasons
+no-receive Z X b j p e =
+    let a = clear (not (ltb j (X .desks))) 2 _ e in
+    let c = clear (not (used (b .mail p) && ltb p 32)) 4 _ (a .1) in
+    let d = clear (not (eqb (toIn (b .mail p)) j)) 5 _ (c .1) in
+    let f = clear (not (ltb (own b j .clock + 1) (X .clocks))) 7 _ (d .1) in
+    let both = not-off _ (c .0) in (
+      ltb-true _ _ (not-off _ (a .0)),
+      and-true-l _ _ both,
+      ltb-true _ _ (not-off _ (f .0)),
+      ltb-true _ _ (and-true-r (used (b .mail p)) (ltb p 32) both),
+    )
+
+pub no-reset : (Z : Phases) (X : Setup) (b : Tables) (j : ℕ) → why Z X b (reset j) ≡ 0
+    → (j < X .desks)
+    × ((s : ℕ) → s < X .desks → seatLags Z b j (X .seatLag) s ≡ false)
+    × ((p : ℕ) → p < 32 → lags Z b j (2 * X .seatLag) (b .mail p) ≡ false)
+    × ((p : ℕ) → p < 32 → lags Z b j (X .shelfLag) (b .shelf p) ≡ false)
+unfolding reasons
+no-reset Z X b j e =
+    let a = clear (not (ltb j (X .desks))) 2 _ e in
+    let c = clear (any (X .desks) (seatLags Z b j (X .seatLag))) 10 _ (a .1) in
+    let d = clear (any 32 (λ p. lags Z b j (2 * X .seatLag) (b .mail p))) 11 _ (c .1) in
+    let f = clear (any 32 (λ p. lags Z b j (X .shelfLag) (b .shelf p))) 12 _ (d .1) in
+    (ltb-true _ _ (not-off _ (a .0)), any-false _ _ (c .0), any-false _ _ (d .0), any-false _ _ (f .0))
+
+pub no-keep : (Z : Phases) (X : Setup) (b : Tables) (j : ℕ) → why Z X b (keep j) ≡ 0
+    → (j < X .desks) × (b .seat j .started ≡ true) × (freeSlot b < 32)
+unfolding reasons
+no-keep Z X b j e =
+    let a = clear (not (ltb j (X .desks))) 2 _ e in
+    let c = clear (not (b .seat j .started)) 6 _ (a .1) in
+    let d = clear (not (ltb (freeSlot b) 32)) 9 _ (c .1) in
+    (ltb-true _ _ (not-off _ (a .0)), not-off _ (c .0), ltb-true _ _ (not-off _ (d .0)))
+
+used-slot : (b : Tables) (s : ℕ) → not (used (b .shelf s) && ltb s 32) ≡ false → (used (b .shelf s) ≡ true) × (s < 32)
+used-slot b s e =
+    let both = not-off _ e in
+    (and-true-l _ _ both, ltb-true _ _ (and-true-r (used (b .shelf s)) (ltb s 32) both))
+
+pub no-show : (Z : Phases) (X : Setup) (b : Tables) (s : ℕ) → why Z X b (show s) ≡ 0
+    → (used (b .shelf s) ≡ true) × (s < 32)
+unfolding reasons
+no-show Z X b s e = used-slot b s (clear (not (used (b .shelf s) && ltb s 32)) 4 _ e .0)
+
+pub no-write : (Z : Phases) (X : Setup) (b : Tables) (s room : ℕ) → why Z X b (write s room) ≡ 0
+    → (used (b .shelf s) ≡ true) × (s < 32)
+unfolding reasons
+no-write Z X b s room e = used-slot b s (clear (not (used (b .shelf s) && ltb s 32)) 4 _ e .0)
