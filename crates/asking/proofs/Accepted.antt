@@ -36,7 +36,9 @@ use Rattle.rules.specs.Model.{
   relation,
   gapFrom,
   reasons,
+  askReasons,
   done,
+  askTells,
 }
 use Rattle.rules.specs.Calls.{on, ringOf}
 use Rattle.rules.specs.Replies.{rowBytes, rowOf}
@@ -100,7 +102,7 @@ module _ (s : List ℕ) (i k : ℕ) where
 
   module _ (n : ℕ) (e : n ≡ slotsNumber s i k) (ne : n ≡ 0 → ⊥) where
     pub reach-due : (both : Bool) → n ≡ numberOf s (pick both (compare i k) (before i k))
-    unfolding reasons
+    unfolding reasons askReasons
     reach-due true = due n e ne _
     reach-due false = due n e ne _
 
@@ -111,13 +113,13 @@ module _ (s : List ℕ) (i k : ℕ) where
 
     pub reach-number : (both : Bool) → (isOut there || (both && isOut back)) ≡ o
         → pick o (number OutOfReach) 0 ≡ numberOf s (pick both (compare i k) (before i k))
-    unfolding reasons
+    unfolding reasons askReasons
     reach-number true q = reached (isOut there || isOut back) q
     reach-number false q = reached (isOut there) (sym (or-none (isOut there)) ∙ q)
 
   module _ (e : numberOf s (before i k) ≡ 0) where
     before-clear : Two s i k × (isOut there ≡ false)
-    unfolding reasons
+    unfolding reasons askReasons
     before-clear =
         let r = ready s (before i k) e in
         let p = clear missing 4 _ (r .1) in
@@ -129,7 +131,7 @@ module _ (s : List ℕ) (i k : ℕ) where
     pub before-answered : (w : Way) → WayBetween s i k w → (j l : ℕ) → j ≡ byIn (tablesOf s .shelf i) → l ≡ byIn (tablesOf s .shelf k)
         → (t : Bool)
         → ((e f : Row) → Clocked w j e f → t ≡ isBefore (gapOf w) j l e f) → accepted (says t) ≡ answerTo s (on (before i k))
-    unfolding done
+    unfolding done askTells
     before-answered w h j l p q t asked =
         ap (λ (u : Bool). accepted (says u))
         (before-is (setupOf s) there _ _ _ _ w h (before-clear .1) t
@@ -138,7 +140,7 @@ module _ (s : List ℕ) (i k : ℕ) where
 
   module _ (e : numberOf s (compare i k) ≡ 0) where
     compare-clear : Two s i k × ((isOut there || isOut back) ≡ false)
-    unfolding reasons
+    unfolding reasons askReasons
     compare-clear =
         let r = ready s (compare i k) e in
         let p = clear missing 4 _ (r .1) in
@@ -151,7 +153,7 @@ module _ (s : List ℕ) (i k : ℕ) where
         → l ≡ byIn (tablesOf s .shelf k) → (t : Relation)
         → ((e f : Row) → Clocked w j e f → Clocked v l f e → t ≡ relation (gapOf w) (gapOf v) j l e f)
         → accepted (relates t) ≡ answerTo s (on (compare i k))
-    unfolding done
+    unfolding done askTells
     compare-answered w v h g j l p q t asked =
         ap (λ (u : Relation). accepted (relates u))
         (relation-is (setupOf s) there _ _ _ _ w h (or-false-l (isOut there) (isOut back) (compare-clear .1)) back v g
@@ -184,37 +186,37 @@ module _ (s : List ℕ) (i : ℕ) where
       go false = refl
 
   pub show-number : slotsNumber s i i ≡ numberOf s (show i)
-  unfolding reasons
+  unfolding reasons askReasons
   show-number = ap (λ (t : Bool). pick (sound s) (pick t 5 0) 1) (sym twice)
 
   pub write-due : (room n : ℕ) → n ≡ slotsNumber s i i → (n ≡ 0 → ⊥) → n ≡ numberOf s (write i room)
-  unfolding reasons
+  unfolding reasons askReasons
   write-due room n e ne = due s i i n e ne (pick (ltb room 20) 15 0)
       ∙ ap (λ (t : Bool). pick (sound s) (pick t 5 (pick (ltb room 20) 15 0)) 1) (sym twice)
 
   pub write-number : (room : ℕ) → slotsNumber s i i ≡ 0 → (u : Bool) → ltb room 20 ≡ u
       → pick u (number NoRoom) 0 ≡ numberOf s (write i room)
-  unfolding reasons
+  unfolding reasons askReasons
   write-number room e u q =
       let h = slots-two s i i e in
       sym (λ x. pick (h .whole x) (pick (h .first x) 5 (pick (q x) 15 0)) 1)
 
   pub show-one : numberOf s (show i) ≡ 0 → One s i
-  unfolding reasons
+  unfolding reasons askReasons
   show-one e = let r = ready s (show i) e in record { whole = r .0; used = clear (noSlot (tablesOf s) i) 4 0 (r .1) .0 }
 
   pub write-one : (room : ℕ) → numberOf s (write i room) ≡ 0 → One s i
-  unfolding reasons
+  unfolding reasons askReasons
   write-one room e = let r = ready s (write i room) e in record { whole = r .0; used = clear (noSlot (tablesOf s) i) 4 _ (r .1) .0 }
 
   pub write-room : (room : ℕ) → numberOf s (write i room) ≡ 0 → 20 ≤ room
-  unfolding reasons
+  unfolding reasons askReasons
   write-room room e =
       ltb-false room 20 (clear (ltb room 20) 14 0 (clear (noSlot (tablesOf s) i) 4 _ (ready s (write i room) e .1) .1) .0)
 
   -- the part of the book that show hands back
   pub show-part : numberOf s (show i) ≡ 0 → take 16 (drop (spot (40 + i) 4) s) ≡ partOf s i
-  unfolding done
+  unfolding done askTells
   show-part e =
       let o = show-one e in
       let l = slot-place s i (o .used) in
@@ -226,7 +228,7 @@ module _ (s : List ℕ) (i : ℕ) where
   pub write-record : (room : ℕ) → numberOf s (write i room) ≡ 0 → (D o : ℕ) (row : List ℕ) → D ≡ byte s 2 → o ≡ byIn (tablesOf s .shelf i)
       → row ≡ rowBytes (rowAt s (40 + i))
       → writeStamp D (record { owner = o; row = rowOf row }) ≡ recordFor s i room
-  unfolding done
+  unfolding done askTells
   write-record room e D o row d p q =
       let r : rowOf row ≡ rowIn (tablesOf s .shelf i)
       = ap rowOf (q ∙ row-read s (40 + i)) ∙ row-of-bytes (readRow (rowAt s (40 + i))) (λ k l. rw (le-ltb k 8 l))

@@ -12,8 +12,8 @@ use Rattle.tools.proofs.Tables.{put-all, put-both, put-same}
 use Rattle.ring.specs.Phases.{lagOf, nextOf, ring, Pair, isLater, later}
 use Rattle.ring.proofs.Ring.{lag-self, lag-next, next-below, later-lag}
 use Rattle.rules.specs.declared.Setup.{Setup}
-use Rattle.rules.specs.Model.{Row, Seat, Held, Tables, Act, local, reset, keep, drop, discard, show, send, receive, before, compare}
-use Rattle.rules.specs.Model.{write, step, done, why, fresh, idle, zeros, grown, merged, turned, seated, freeMail, freeSlot, rowIn}
+use Rattle.rules.specs.Model.{Row, Seat, Held, Tables, Act, local, reset, keep, drop, discard, send, receive, ask}
+use Rattle.rules.specs.Model.{step, done, why, fresh, idle, zeros, grown, merged, turned, seated, freeMail, freeSlot, rowIn}
 use Rattle.rules.specs.Model.{used, own, lags, seatLags, tick, turn, settle}
 use Rattle.rules.specs.Model.{phases}
 use Rattle.book.specs.Fits.{InRange, PairFits, RowFits, MailFits, SlotFits, FitsAt, Fits}
@@ -265,10 +265,7 @@ module _ (X : Setup) (ok : Permitted X) (b : Tables) (w : Fits X b) where
         mail = put-all (λ p o. Each (MailFits X (phases b) p) o) (b .mail) p none tt (λ p ne. w .mail p);
         shelf = w .shelf;
       }
-  done-fits (before s t) e = w
-  done-fits (compare s t) e = w
-  done-fits (show s) e = w
-  done-fits (write s room) e = w
+  done-fits (ask q) e = w
 
   pub step-fits : (c : Act) → Fits X ((step (Z X) X b c) .tables)
   unfolding step

@@ -4,31 +4,19 @@
 --   turnOn s c     what the call does by the rules, on the ring
 --   answerTo s c   the answer to the call c on the bytes s: number and value, BadBook first
 --   bookAfter s c  the bytes that the call c leaves: the same ones where it is refused
---   partIn v       the sixteen bytes that a show hands back with the value v; none with any other value
---   recordIn D v   the stamp record of a value v that is a stamp, with or without a place; none with any other value
+--   partIn v       the sixteen bytes of the row in a value, which a show hands back; none where it has none
+--   recordIn D v   the record of the stamp in a value; none where it has none
 --   partOf s k     what show of slot k hands back of the bytes s
 --   targetAfter s k t   what write of slot k makes of the target t
 --   beforeOf X a b, compareOf X a b   the answers to before and compare off the book, of the records a and b under the setup X
 use Prim.Native.Nat.{ℕ, zero, suc}
 use mathlib.Core.Bool.{Bool}
-use mathlib.Core.List.{List, []}
+use mathlib.Core.List.{List}
 use lib.Dec.{eqb}
 use lib.ListN.{length}
 use Rattle.tools.specs.Tests.{pick}
-use Rattle.rules.specs.Model.{
-  show,
-  write,
-  Value,
-  nothing,
-  stamp,
-  sent,
-  slot,
-  says,
-  relates,
-  shows,
-  Answer,
-  refusal,
-}
+use Rattle.tools.specs.Lists.{listed}
+use Rattle.rules.specs.Model.{show, write, Value, Answer, refusal}
 use Rattle.rules.specs.declared.Setup.{Setup}
 use Rattle.rules.specs.Numbers.{BadBook, number}
 use Rattle.rules.specs.Calls.{Call, start, on, Turn, ringOf, call}
@@ -56,22 +44,10 @@ unfoldable pub bookAfter : List ℕ → Call → List ℕ
 bookAfter s c = leaves (answerTo s c .number) s (encode (turnOn s c .book))
 
 abbrev pub partIn : Value → List ℕ
-partIn nothing = []
-partIn (stamp j r) = []
-partIn (sent p j r) = []
-partIn (slot i) = []
-partIn (says t) = []
-partIn (relates r) = []
-partIn (shows r) = rowBytes r
+partIn v = listed rowBytes (v .row)
 
 abbrev pub recordIn : ℕ → Value → List ℕ
-recordIn D nothing = []
-recordIn D (stamp j r) = writeStamp D (record { owner = j; row = r })
-recordIn D (sent p j r) = writeStamp D (record { owner = j; row = r })
-recordIn D (slot i) = []
-recordIn D (says t) = []
-recordIn D (relates r) = []
-recordIn D (shows r) = []
+recordIn D v = listed (writeStamp D) (v .stamp)
 
 abbrev pub partOf : List ℕ → ℕ → List ℕ
 partOf s k = partIn (answerTo s (on (show k)) .value)

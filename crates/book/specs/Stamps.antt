@@ -18,7 +18,7 @@ use Rattle.tools.specs.Lists.{byte, tab}
 use Rattle.ring.specs.Phases.{Pair}
 use Rattle.rules.specs.declared.Setup.{Setup}
 use Rattle.rules.specs.Model.{limit}
-use Rattle.rules.specs.Labels.{Label}
+use Rattle.rules.specs.Model.{Label}
 use Rattle.rules.specs.Replies.{rowOf}
 use Rattle.book.specs.Layout.{markedByte}
 

@@ -3,9 +3,10 @@
 --   setupWith P A     the setup of the cases with a ring of P, and kept stamps that may lag A; X, that with 5 and 4
 --   narrow, small     two desks that may lag one phase, as in the listing; the same with clocks and a reach to spare
 --   pair v t          the pair v.t
---   Shown             a value as the listing shows it
+--   Made, Shown       a stamp, and a value, as the listing shows it
+--   plain, made, posted, inSlot, word, stands   nothing shown; a stamp; a stamp with its place; a slot; yes or no; a relation
 --   pairs k n r       n pairs of the row r, from desk k on
---   shown D v         the value v as the listing shows it, its rows as D pairs
+--   cut D e, shown D v   a stamp, and the value v, as the listing shows it, with D pairs
 --   Line              a number, and what is shown with it
 --   told v, refused w an accepted line that shows v; the line of a refusal by its name
 --   Case              calls one after another, and the lines that answer them
@@ -45,26 +46,9 @@ use Rattle.rules.specs.Numbers.{
   OutOfReach,
   number,
 }
-use Rattle.rules.specs.Model.{
-  Row,
-  local,
-  reset,
-  keep,
-  send,
-  receive,
-  before,
-  compare,
-  Value,
-  nothing,
-  stamp,
-  sent,
-  slot,
-  says,
-  relates,
-  shows,
-}
+use Rattle.rules.specs.Model.{Row, Label, before, compare, local, reset, keep, send, receive, Value}
 use Rattle.rules.specs.Calls.{Book, Call, start, on, Turn, ringOf}
-use Rattle.rules.specs.Labels.{Label, gapOff, beforeOff}
+use Rattle.rules.specs.Labels.{gapOff, beforeOff}
 use Rattle.history.specs.Runs.{run}
 
 abbrev pub setupWith : ℕ → ℕ → Setup
@@ -79,27 +63,46 @@ narrow = record { desks = 2; phases = 3; clocks = 3; seatLag = 1; shelfLag = 1; 
 abbrev pub pair : ℕ → ℕ → Pair
 pair v t = record { phase = v; clock = t }
 
-pub data Shown : Type 0 where
-  plain : Shown
-  made : ℕ → List Pair → Shown
-  posted : ℕ → ℕ → List Pair → Shown
-  inSlot : ℕ → Shown
-  word : Bool → Shown
-  stands : Relation → Shown
-  row : List Pair → Shown
+pub record Made : Type 0 where
+  pub owner : ℕ
+  pub pairs : List Pair
+
+pub record Shown : Type 0 where
+  pub place : Option ℕ
+  pub stamp : Option Made
+  pub slot : Option ℕ
+  pub verdict : Option Bool
+  pub relation : Option Relation
+
+abbrev pub plain : Shown
+plain = record { place = none; stamp = none; slot = none; verdict = none; relation = none }
+
+abbrev pub made : ℕ → List Pair → Shown
+made j ps = record { place = none; stamp = some record { owner = j; pairs = ps }; slot = none; verdict = none; relation = none }
+
+abbrev pub posted : ℕ → ℕ → List Pair → Shown
+posted p j ps = record { place = some p; stamp = some record { owner = j; pairs = ps }; slot = none; verdict = none; relation = none }
+
+abbrev pub inSlot : ℕ → Shown
+inSlot s = record { place = none; stamp = none; slot = some s; verdict = none; relation = none }
+
+abbrev pub word : Bool → Shown
+word t = record { place = none; stamp = none; slot = none; verdict = some t; relation = none }
+
+abbrev pub stands : Relation → Shown
+stands r = record { place = none; stamp = none; slot = none; verdict = none; relation = some r }
 
 unfoldable pub pairs : ℕ → ℕ → Row → List Pair
 pairs k zero r = []
 pairs k (suc n) r = r k ∷ pairs (suc k) n r
 
+abbrev pub cut : ℕ → Option Label → Option Made
+cut D none = none
+cut D (some e) = some record { owner = e .owner; pairs = pairs 0 D (e .row) }
+
 abbrev pub shown : ℕ → Value → Shown
-shown D nothing = plain
-shown D (stamp j r) = made j (pairs 0 D r)
-shown D (sent p j r) = posted p j (pairs 0 D r)
-shown D (slot s) = inSlot s
-shown D (says t) = word t
-shown D (relates r) = stands r
-shown D (shows r) = row (pairs 0 D r)
+shown D v =
+    record { place = v .place; stamp = cut D (v .stamp); slot = v .slot; verdict = v .verdict; relation = v .relation }
 
 pub record Line : Type 0 where
   pub number : ℕ

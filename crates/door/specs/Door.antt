@@ -8,21 +8,23 @@
 --   bookBy q s c     the bytes that the act c leaves of the book s: the same ones where q holds
 --   given f t q a    the lent buffer t after a call that is answered cramped q a: in front the bytes f of its value
 --   relationByte r   the byte of a relation
---   byteIn v         the one byte of a value that is a place, a slot, a yes or no, or a relation; none with any other value
---   stampIn s v      the stamp record of a value that is a stamp, with the D of the book s; none with any other value
+--   one n            the byte n
+--   byteIn v         the one byte of the place, slot, yes or no, or relation in a value
+--   stampIn s v      the record of the stamp in a value, with the D of the book s; none where it has none
 --   whichByte w      the byte of one of two records, or of neither
---   whichIn v        the byte of the newest of two records that a value relates; none with any other value
+--   whichIn v        the byte of the newest of two records that a value relates; none where it relates none
 use Prim.Native.Nat.{ℕ}
 use mathlib.Core.Bool.{Bool, _||_}
-use mathlib.Core.List.{List, [], _∷_}
+use mathlib.Core.List.{List, [], _∷_, _++_}
 use lib.Dec.{ltb, eqb}
 use lib.ListN.{length}
 use Rattle.tools.specs.Tests.{pick}
+use Rattle.tools.specs.Lists.{listed}
 use Rattle.rules.specs.declared.Setup.{Setup}
 use Rattle.rules.specs.declared.Relation.{Relation}
 use Rattle.rules.specs.declared.Relation.the-variants.{Before, After, Same, Concurrent, Crossed}
 use Rattle.rules.specs.Numbers.{NoRoom, number}
-use Rattle.rules.specs.Model.{Act, Value, nothing, stamp, sent, slot, says, relates, shows, Answer, refusal}
+use Rattle.rules.specs.Model.{Act, Value, Answer, refusal}
 use Rattle.rules.specs.Calls.{on}
 use Rattle.rules.specs.Labels.{Which, First, Second, Neither, newer}
 use Rattle.book.specs.Codec.{decode}
@@ -58,14 +60,13 @@ relationByte Same = 3
 relationByte Concurrent = 4
 relationByte Crossed = 5
 
+abbrev pub one : ℕ → List ℕ
+one n = n ∷ []
+
 abbrev pub byteIn : Value → List ℕ
-byteIn nothing = []
-byteIn (stamp j r) = []
-byteIn (sent p j r) = p ∷ []
-byteIn (slot s) = s ∷ []
-byteIn (says t) = pick t 1 0 ∷ []
-byteIn (relates r) = relationByte r ∷ []
-byteIn (shows r) = []
+byteIn v =
+    listed one (v .place) ++ listed one (v .slot) ++ listed (λ t. one (pick t 1 0)) (v .verdict)
+    ++ listed (λ r. one (relationByte r)) (v .relation)
 
 abbrev pub stampIn : List ℕ → Value → List ℕ
 stampIn s v = recordIn (decode s .setup .desks) v
@@ -76,10 +77,4 @@ whichByte Second = 2
 whichByte Neither = 0
 
 abbrev pub whichIn : Value → List ℕ
-whichIn nothing = []
-whichIn (stamp j r) = []
-whichIn (sent p j r) = []
-whichIn (slot s) = []
-whichIn (says t) = []
-whichIn (relates r) = whichByte (newer r) ∷ []
-whichIn (shows r) = []
+whichIn v = listed (λ r. one (whichByte (newer r))) (v .relation)

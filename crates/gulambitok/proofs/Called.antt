@@ -8,7 +8,7 @@ use borrow.Author.Tests.{lt-ltb, le-ltb}
 use lib.ListN.{length}
 use Rattle.tools.specs.Lists.{byte}
 use Rattle.tools.proofs.Lists.{length-tab}
-use Rattle.rules.specs.Model.{Act, show, Value, nothing, Answer, refusal, done}
+use Rattle.rules.specs.Model.{Act, show, Value, nothing, Answer, refusal, done, askTells}
 use Rattle.rules.specs.Calls.{on}
 use Rattle.rules.specs.Replies.{rowBytes}
 use Rattle.book.specs.Stamps.{filled}
@@ -72,7 +72,7 @@ module _ (s t u : List ℕ) (c : Act) where
 -- show: sixteen bytes where it is accepted
 module _ (s : List ℕ) (i : ℕ) where
   pub part-size : numberOf s (show i) ≡ 0 → length (partOf s i) ≡ 16
-  unfolding done rowBytes
+  unfolding done askTells rowBytes
   part-size e = sym (ap (λ (a : Answer). length (partIn (a .value))) (accepted-answer s (show i) e)) ∙ length-tab 0 16 _
 
   module _ (t : List ℕ) (n : ℕ) (h : n ≡ numberOf s (show i)) where

@@ -15,7 +15,7 @@ use Rattle.rules.specs.declared.Setup.{Setup}
 use Rattle.tools.specs.Tests.{pick}
 use Rattle.rules.specs.declared.Relation.the-variants.{Before, After, Same, Concurrent, Crossed}
 use Rattle.rules.specs.Model.{Held, Tables, before, compare, says, relates, step, done, near, isOut, gapIn, gap, sameBy, isBefore}
-use Rattle.rules.specs.Model.{relation, settle, telling, reasons}
+use Rattle.rules.specs.Model.{relation, settle, telling, askReasons, reasons, askTells}
 use Rattle.history.specs.History.{Log, History, Leads}
 use Rattle.history.specs.Demand.{InReach, BeforeIs, CompareIs, Stands}
 use Rattle.tools.proofs.Tests.{and-true-l, and-true-r}
@@ -246,14 +246,14 @@ module _ (X : Setup) (ok : Permitted X) (b : Tables) (h : History) (g : Good X b
     step-before : step line X b (before s t)
         ≡ settle (pick (isOut (gap line X b (e .by) (e .row) (f .row))) 16 0) b
         (telling b (says (isBefore (gapIn (gap line X b (e .by) (e .row) (f .row))) (e .by) (f .by) (e .row) (f .row))))
-    unfolding step reasons done
+    unfolding step reasons askReasons done askTells
     step-before = rw (p, q, lt-ltb s 32 (slot-of s e p .0), lt-ltb t 32 (slot-of t f q .0))
 
     step-compare : step line X b (compare s t)
         ≡ settle (pick (isOut (gap line X b (e .by) (e .row) (f .row)) || isOut (gap line X b (f .by) (f .row) (e .row))) 16 0) b
         (telling b (relates (relation (gapIn (gap line X b (e .by) (e .row) (f .row))) (gapIn (gap line X b (f .by) (f .row) (e .row)))
         (e .by) (f .by) (e .row) (f .row))))
-    unfolding step reasons done
+    unfolding step reasons askReasons done askTells
     step-compare = rw (p, q, lt-ltb s 32 (slot-of s e p .0), lt-ltb t 32 (slot-of t f q .0))
 
     pub on-before : BeforeIs X (h .log) (h .kept s) (h .kept t) ((step line X b (before s t)) .answer)

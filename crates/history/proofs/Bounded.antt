@@ -13,8 +13,8 @@ use Rattle.rules.proofs.Accepted.{no-local, no-send, no-receive, no-reset, no-k
 use Rattle.rules.specs.declared.Setup.{Setup}
 use Rattle.tools.specs.Tests.{pick}
 use Rattle.tools.specs.Tables.{put}
-use Rattle.rules.specs.Model.{Row, Seat, Held, Tables, Act, local, reset, keep, drop, discard, show, send, receive, before, compare}
-use Rattle.rules.specs.Model.{write, done, why, fresh, grown, merged, turned, seated, freeMail, freeSlot, rowIn, used}
+use Rattle.rules.specs.Model.{Row, Seat, Held, Tables, Act, local, reset, keep, drop, discard, send, receive, ask}
+use Rattle.rules.specs.Model.{done, why, fresh, grown, merged, turned, seated, freeMail, freeSlot, rowIn, used}
 use Rattle.rules.specs.Model.{own, lags, seatLags, tick, turn}
 use Rattle.tools.specs.Tables.{Each}
 use Rattle.tools.proofs.Tables.{put-all, put-both, put-same}
@@ -169,7 +169,4 @@ module _ (X : Setup) (ok : Permitted X) (b : Tables) (w : Bounded X b) where
         shelf = w .shelf;
         mail = put-all (λ s o. Each (NearAt (phases b) (2 * X .seatLag) s) o) (b .mail) p none tt (λ s h. w .mail s);
       }
-  bounded-done (before s t) e = w
-  bounded-done (compare s t) e = w
-  bounded-done (show s) e = w
-  bounded-done (write s room) e = w
+  bounded-done (ask q) e = w

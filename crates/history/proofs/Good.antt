@@ -14,8 +14,8 @@ use Rattle.rules.proofs.Setups.{Permitted}
 use Rattle.rules.specs.declared.Setup.{Setup}
 use Rattle.tools.specs.Tests.{pick}
 use Rattle.tools.specs.Tables.{put}
-use Rattle.rules.specs.Model.{Row, Seat, Held, Tables, Act, local, reset, keep, drop, discard, show, send, receive, before, compare}
-use Rattle.rules.specs.Model.{write, step, done, why, fresh, zeros, grown, merged, turned, seated, freeMail, freeSlot, rowIn, used}
+use Rattle.rules.specs.Model.{Row, Seat, Held, Tables, Act, local, reset, keep, drop, discard, send, receive, ask}
+use Rattle.rules.specs.Model.{step, done, why, fresh, zeros, grown, merged, turned, seated, freeMail, freeSlot, rowIn, used}
 use Rattle.rules.specs.Model.{own, tick, turn, settle}
 use Rattle.history.specs.History.{Kind, cause, Local, Send, Reset, Receive, Log, History, desk-link, one, more, logged, noted, none-yet}
 use Rattle.history.specs.History.{adds, kept-if}
@@ -341,10 +341,7 @@ module _ (X : Setup) (ok : Permitted X) (b : Tables) (h : History) (g : Good X b
         shelf = g .shelf;
         mail = put-all (λ t (o : Option Held). Each (Behind (h .log) (h .mailed t)) o) (b .mail) p none tt (λ t ne. g .mail t);
       }
-  good-done (before s t) e bd = g
-  good-done (compare s t) e bd = g
-  good-done (show s) e bd = g
-  good-done (write s room) e bd = g
+  good-done (ask q) e bd = g
 
 pub good-next : (X : Setup) → Permitted X → (b : Tables) (h : History) → Good X b h → (c : Act)
     → Good X ((step line X b c) .tables) (kept-if (why line X b c) h (adds h b c))

@@ -20,7 +20,8 @@ use Rattle.rules.specs.declared.Relation.the-variants.{Before, After, Same, Con
 use Rattle.rules.specs.Setups.{permits}
 use Rattle.rules.specs.Model.{Row, Answer, accepted, says, relates, relation}
 use Rattle.rules.specs.Calls.{Call}
-use Rattle.rules.specs.Labels.{Label, First, gapOff, beforeOff, compareOff, newer, newestBy, newestOff}
+use Rattle.rules.specs.Model.{Label}
+use Rattle.rules.specs.Labels.{First, gapOff, beforeOff, compareOff, newer, newestBy, newestOff}
 use Rattle.history.specs.Round.{roundRow}
 use Rattle.history.specs.History.{Log, Leads, State, logAfter, setupAfter}
 use Rattle.history.specs.Stamps.{StampOf, Answered}

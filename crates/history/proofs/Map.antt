@@ -10,8 +10,8 @@ use Rattle.ring.specs.Phases.{Phases, Pair, isLater, later}
 use Rattle.rules.specs.declared.Setup.{Setup}
 use Rattle.tools.specs.Tests.{pick}
 use Rattle.tools.specs.Tables.{put}
-use Rattle.rules.specs.Model.{Row, Seat, Held, Tables, Act, local, reset, keep, drop, discard, show, send, receive, before, compare}
-use Rattle.rules.specs.Model.{write, Value, nothing, stamp, sent, slot, shows, accepted, step, done, reasons, why, filing, telling}
+use Rattle.rules.specs.Model.{Row, Seat, Held, Tables, Question, askBefore, askCompare, askShow, askWrite, Act, local, reset, keep, drop, discard, send, receive, ask}
+use Rattle.rules.specs.Model.{Value, nothing, stamp, sent, slot, shows, accepted, step, done, askReasons, reasons, askTells, why, filing, telling}
 use Rattle.rules.specs.Model.{grown, merged, turned, event, freeMail, freeSlot, rowIn, byIn, toIn, used, own, lags, tick, turn}
 use Rattle.rules.specs.Model.{settle, gapHeld, near}
 use Rattle.history.specs.Round.{mapPair, mapRow, mapSeat, mapHeld, mapTables, mapValue, mapResult}
@@ -19,7 +19,7 @@ use Rattle.tools.specs.Tables.{Each}
 use Rattle.tools.proofs.Tests.{pick-ap, any-cong}
 use Rattle.tools.proofs.Tables.{put-both}
 use Rattle.rules.specs.Model.{phases}
-use Rattle.rules.proofs.Accepted.{no-receive, no-show, no-write}
+use Rattle.rules.proofs.Accepted.{no-receive, no-ask}
 
 -- the lag of v at desk k is the same before and after the map
 abbrev pub Keeps : Phases → Phases → (ℕ → ℕ → ℕ) → Tables → ℕ → ℕ → Type 0
@@ -68,6 +68,13 @@ module _ (Z Y : Phases) (φ : ℕ → ℕ → ℕ) (X : Setup) (b : Tables) (w :
       go (some e) none p q = refl
       go (some e) (some f) p q = ap (near X) (λ i. record { up = p .1 (e .by) i; down = q .1 (e .by) i })
 
+  ask-why : (q : Question) → why Z X (mapTables φ b) (ask q) ≡ why Y X b (ask q)
+  unfolding reasons askReasons
+  ask-why (askBefore s t) = rw (gap-held s t) (simp used-map)
+  ask-why (askCompare s t) = rw (gap-held s t, gap-held t s) (simp used-map)
+  ask-why (askShow s) = simp used-map
+  ask-why (askWrite s room) = simp used-map
+
   why-map : (c : Act) → why Z X (mapTables φ b) c ≡ why Y X b c
   unfolding reasons
   why-map (local j) = refl
@@ -85,10 +92,7 @@ module _ (Z Y : Phases) (φ : ℕ → ℕ → ℕ) (X : Setup) (b : Tables) (w :
   why-map (keep j) = simp used-map
   why-map (drop s) = simp used-map
   why-map (discard p) = simp used-map
-  why-map (before s t) = rw (gap-held s t) (simp used-map)
-  why-map (compare s t) = rw (gap-held s t, gap-held t s) (simp used-map)
-  why-map (show s) = simp used-map
-  why-map (write s room) = simp used-map
+  why-map (ask q) = ask-why q
 
   event-map : (j : ℕ) (r r′ : Row) (m m′ : ℕ → Option Held) (v v′ : Value)
       → r ≡ mapRow φ r′ → m ≡ (λ p. mapHeld φ (m′ p)) → v ≡ mapValue φ v′
@@ -148,6 +152,14 @@ module _ (Z Y : Phases) (φ : ℕ → ℕ → ℕ) (X : Setup) (b : Tables) (w :
   free-slot : freeSlot (mapTables φ b) ≡ freeSlot b
   free-slot = simp used-map
 
+  tells-map : (q : Question) → why Y X b (ask q) ≡ 0 → askTells Z X (mapTables φ b) q ≡ mapValue φ (askTells Y X b q)
+  unfolding askTells
+  tells-map (askBefore s t) e = simp (gap-held s t, by-map, clock-map)
+  tells-map (askCompare s t) e = simp (gap-held s t, gap-held t s, by-map, clock-map)
+  tells-map (askShow s) e = ap shows (row-map φ (b .shelf s) (no-ask Y X b (askShow s) s refl e .0))
+  tells-map (askWrite s room) e =
+      λ i. stamp (by-map φ (b .shelf s) i) (row-map φ (b .shelf s) (no-ask Y X b (askWrite s room) s refl e .0) i)
+
   done-map : (c : Act) → why Y X b c ≡ 0 → done Z X (mapTables φ b) c ≡ mapResult φ (done Y X b c)
   unfolding done
   done-map (local j) e =
@@ -179,12 +191,7 @@ module _ (Z Y : Phases) (φ : ℕ → ℕ → ℕ) (X : Setup) (b : Tables) (w :
       λ i. filing (mapTables φ b) ((mapTables φ b) .mail) (put-held (b .shelf) s none i) nothing
   done-map (discard p) e =
       λ i. filing (mapTables φ b) (put-held (b .mail) p none i) ((mapTables φ b) .shelf) nothing
-  done-map (before s t) e = simp (gap-held s t, by-map, clock-map)
-  done-map (compare s t) e = simp (gap-held s t, gap-held t s, by-map, clock-map)
-  done-map (show s) e = ap (λ (r : Row). telling (mapTables φ b) (shows r)) (row-map φ (b .shelf s) (no-show Y X b s e .0))
-  done-map (write s room) e =
-      λ i. telling (mapTables φ b)
-      (stamp (by-map φ (b .shelf s) i) (row-map φ (b .shelf s) (no-write Y X b s room e .0) i))
+  done-map (ask q) e = ap (telling (mapTables φ b)) (tells-map q e)
 
   -- THE SIMULATION, one call
   pub step-map : (c : Act) → step Z X (mapTables φ b) c ≡ mapResult φ (step Y X b c)

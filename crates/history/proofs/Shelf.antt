@@ -14,7 +14,8 @@ use Rattle.rules.specs.declared.Setup.{Setup}
 use Rattle.rules.specs.declared.Relation.{Relation}
 use Rattle.rules.specs.declared.Relation.the-variants.{Crossed}
 use Rattle.rules.specs.Setups.{permits}
-use Rattle.rules.specs.Model.{Held, before, compare, used, relates, nothing, Answer, refusal, step}
+use Rattle.tools.proofs.Tables.{some-is, none-some}
+use Rattle.rules.specs.Model.{Held, before, compare, used, Value, relates, nothing, Answer, refusal, step}
 use Rattle.rules.specs.Calls.{Book, Call, on, Turn, freshBook, ringOf, call}
 use Rattle.history.specs.History.{Log, State, begin, after, logAfter, setupAfter}
 use Rattle.history.specs.Round.{modulo, mapValue, roundBook, roundAnswer}
@@ -83,11 +84,11 @@ compare-words X h x y a only w r v = go (both-dec (in-reach? X h x y) (in-reach?
     go (yes (p, q)) =
         let t = w .said p q in
         let e : relates (t .0) ≡ relates r = sym (t .2) ∙ v in
-        subst (Stands h x y) (let z : t .0 ≡ r = cc in z) (t .3)
+        subst (Stands h x y) (some-is (ap (λ (u : Value). u .relation) e)) (t .3)
     go (no n) =
         let e : a ≡ refusal (a .number) = only (λ z. let y = w .out .1 n in omega arith) in
         let q : nothing ≡ relates r = sym (ap (λ (b : Answer). b .value) e) ∙ v in
-        absurd (let z : _≡_ {A = ℕ} 0 1 = cc in omega arith)
+        absurd (none-some (ap (λ (u : Value). u .relation) q))
 
 -- after any calls from a fresh book on
 module _ (X : Setup) (fair : permits X ≡ true) (cs : List Call) (i j : ℕ)

@@ -11,15 +11,14 @@ use Rattle.tools.proofs.Tables.{put-same, put-other, some-is, none-some}
 use Rattle.ring.specs.Phases.{line}
 use Rattle.rules.specs.declared.Setup.{Setup}
 use Rattle.rules.specs.Setups.{permits}
-use Rattle.rules.specs.Model.{Row, Held, Act, local, reset, keep, drop, discard, show, send, receive, before, compare, write, Value}
-use Rattle.rules.specs.Model.{Answer, byIn, rowIn, used, why, done, step, settle}
+use Rattle.rules.specs.Model.{Row, Held, Label, Question, askBefore, askCompare, askShow, askWrite, Act, local, reset, keep, drop, discard, send, receive, ask, slotOf}
+use Rattle.rules.specs.Model.{Value, Answer, byIn, rowIn, used, why, askTells, done, step, settle}
 use Rattle.rules.specs.Calls.{Book, Call, start, on, call}
-use Rattle.rules.specs.Labels.{Label}
 use Rattle.history.specs.Round.{modulo, mapHeld, mapValue, roundRow, roundBook}
 use Rattle.history.specs.History.{Kind, Log, History, State, logged, adds, kept-if, none-yet, begin, next, after, logAfter, setupAfter}
-use Rattle.history.specs.Stamps.{labelOf, StampOf, slotOf, ownerAt, stampIn, stampGiven, eventOf, Ongoing, Answered}
+use Rattle.history.specs.Stamps.{labelOf, StampOf, ownerAt, stampIn, stampGiven, eventOf, Ongoing, Answered}
 use Rattle.rules.proofs.Steps.{step-number}
-use Rattle.rules.proofs.Accepted.{no-show, no-write}
+use Rattle.rules.proofs.Accepted.{no-ask}
 use Rattle.history.proofs.Good.{Behind}
 use Rattle.history.proofs.Runs.{startTurn, Faithful, faithful-run, after-append}
 use Rattle.history.proofs.Alike.{act-alike, ring-book}
@@ -61,10 +60,7 @@ module _ (s : State) where
   adds-on (keep j) = same-log (s .history .log)
   adds-on (drop t) = same-log (s .history .log)
   adds-on (discard p) = same-log (s .history .log)
-  adds-on (before t u) = same-log (s .history .log)
-  adds-on (compare t u) = same-log (s .history .log)
-  adds-on (show t) = same-log (s .history .log)
-  adds-on (write t room) = same-log (s .history .log)
+  adds-on (ask q) = same-log (s .history .log)
 
   next-history : (c : Act) → next s (on c) .history ≡ kept-if (why line (now s) (s .book .tables) c) (s .history) (added s c)
   unfolding next call
@@ -160,6 +156,22 @@ module _ (s : State) (w : Faithful s) where
       → StampIn s (s .history .kept t) (record { owner = byIn (slot-now t); row = roundRow (now s .phases) (rowIn (slot-now t)) })
   kept-stamp t u = held-stamp (now s) (s .history .log) (s .history .kept t) (slot-now t) u (w .good .shelf t)
 
+  -- a question hands out no stamp but that of its slot
+  ask-stamp : (a : Question) → why line (now s) (s .book .tables) (ask a) ≡ 0 → (e : Label)
+      → roundStamp s (ask a) (askTells line (now s) (s .book .tables) a) ≡ some e
+      → StampIn s (eventOf (s .history) (ask a)) e
+  unfolding askTells
+  ask-stamp (askBefore t u) z e q = absurd (none-some q)
+  ask-stamp (askCompare t u) z e q = absurd (none-some q)
+  ask-stamp (askShow t) z e q =
+      subst (StampIn s (s .history .kept t))
+      (some-is
+      ((λ i. some record { owner = by-round (now s .phases) (slot-now t) i; row = roundRow (now s .phases) (rowIn (slot-now t)) }) ∙ q))
+      (kept-stamp t (no-ask line (now s) (s .book .tables) (askShow t) t refl z .0))
+  ask-stamp (askWrite t room) z e q =
+      subst (StampIn s (s .history .kept t)) (some-is q)
+      (kept-stamp t (no-ask line (now s) (s .book .tables) (askWrite t room) t refl z .0))
+
   done-stamp : (c : Act) → why line (now s) (s .book .tables) c ≡ 0 → (e : Label)
       → roundStamp s c (done line (now s) (s .book .tables) c .answer .value) ≡ some e
       → StampOf (now s) (added s c .log) (eventOf (s .history) c) e
@@ -171,15 +183,7 @@ module _ (s : State) (w : Faithful s) where
   done-stamp (keep j) z e q = absurd (none-some q)
   done-stamp (drop t) z e q = absurd (none-some q)
   done-stamp (discard p) z e q = absurd (none-some q)
-  done-stamp (before t u) z e q = absurd (none-some q)
-  done-stamp (compare t u) z e q = absurd (none-some q)
-  done-stamp (show t) z e q =
-      subst (StampIn s (s .history .kept t))
-      (some-is
-      ((λ i. some record { owner = by-round (now s .phases) (slot-now t) i; row = roundRow (now s .phases) (rowIn (slot-now t)) }) ∙ q))
-      (kept-stamp t (no-show line (now s) (s .book .tables) t z .0))
-  done-stamp (write t room) z e q =
-      subst (StampIn s (s .history .kept t)) (some-is q) (kept-stamp t (no-write line (now s) (s .book .tables) t room z .0))
+  done-stamp (ask a) z e q = ask-stamp a z e q
 
   step-stamp : (c : Act) (e : Label)
       → roundStamp s c (step line (now s) (s .book .tables) c .answer .value) ≡ some e

@@ -31,12 +31,9 @@ use Rattle.rules.specs.Model.{
   keep,
   drop,
   discard,
-  show,
   send,
   receive,
-  before,
-  compare,
-  write,
+  ask,
   grown,
   merged,
   turned,
@@ -110,10 +107,7 @@ adds h b (keep j) =
     record { log = h .log; mailed = h .mailed; kept = put (h .kept) (freeSlot b) (h .last j); last = h .last }
 adds h b (drop s) = h
 adds h b (discard p) = h
-adds h b (before s t) = h
-adds h b (compare s t) = h
-adds h b (show s) = h
-adds h b (write s room) = h
+adds h b (ask q) = h
 
 -- a refused call leaves the history as it was
 abbrev pub kept-if : ℕ → History → History → History

@@ -2,7 +2,7 @@
 -- Assumes nothing.
 --   φ k v                what the phase v of desk k becomes
 --   mapPair, mapRow, mapSeat, mapHeld, mapTables   a pair, a row, a seat, what is held, the tables, with every phase mapped
---   mapValue, mapAnswer, mapResult   a value, an answer, a result, with every phase mapped
+--   mapStamp, mapShown, mapValue, mapAnswer, mapResult   a stamp or a row in a value, a value, an answer, a result, likewise
 --   modulo P             the map that is the coming round on a ring of P
 --   roundRow, roundTables, roundResult, roundAnswer   the same with phases come round on a ring of P
 --   roundBook b          the book b come round on the ring of its setup
@@ -10,22 +10,7 @@
 use Prim.Native.Nat.{ℕ, _%_}
 use mathlib.Core.Option.{Option, none, some}
 use Rattle.ring.specs.Phases.{Pair}
-use Rattle.rules.specs.Model.{
-  Row,
-  Seat,
-  Held,
-  Tables,
-  Value,
-  nothing,
-  stamp,
-  sent,
-  slot,
-  says,
-  relates,
-  shows,
-  Answer,
-  Result,
-}
+use Rattle.rules.specs.Model.{Row, Seat, Held, Tables, Label, Value, Answer, Result}
 use Rattle.rules.specs.Calls.{Book, Turn}
 
 abbrev pub mapPair : (ℕ → ℕ) → Pair → Pair
@@ -45,14 +30,16 @@ abbrev pub mapTables : (ℕ → ℕ → ℕ) → Tables → Tables
 mapTables φ b =
     record { seat = λ j. mapSeat φ (b .seat j); mail = λ p. mapHeld φ (b .mail p); shelf = λ s. mapHeld φ (b .shelf s) }
 
+abbrev pub mapStamp : (ℕ → ℕ → ℕ) → Option Label → Option Label
+mapStamp φ none = none
+mapStamp φ (some e) = some record { owner = e .owner; row = mapRow φ (e .row) }
+
+abbrev pub mapShown : (ℕ → ℕ → ℕ) → Option Row → Option Row
+mapShown φ none = none
+mapShown φ (some r) = some (mapRow φ r)
+
 abbrev pub mapValue : (ℕ → ℕ → ℕ) → Value → Value
-mapValue φ nothing = nothing
-mapValue φ (stamp j r) = stamp j (mapRow φ r)
-mapValue φ (sent p j r) = sent p j (mapRow φ r)
-mapValue φ (slot s) = slot s
-mapValue φ (says t) = says t
-mapValue φ (relates r) = relates r
-mapValue φ (shows r) = shows (mapRow φ r)
+mapValue φ v = record { place = v .place; stamp = mapStamp φ (v .stamp); slot = v .slot; verdict = v .verdict; relation = v .relation; row = mapShown φ (v .row) }
 
 abbrev pub mapAnswer : (ℕ → ℕ → ℕ) → Answer → Answer
 mapAnswer φ a = record { number = a .number; value = mapValue φ (a .value) }

@@ -18,13 +18,15 @@ use Rattle.rules.specs.declared.Compared.the-variants as Compares
 use Rattle.rules.specs.Setups.{permits}
 use Rattle.rules.specs.Numbers.{OutOfReach, number}
 use Rattle.rules.specs.Model.{Row, says, relates, Answer, refusal, accepted, near, isOut, gapIn, isBefore, relation}
-use Rattle.rules.specs.Labels.{Label, rowRead, gapRead, gapOff, whyOff, beforeOff, compareOff, newer, newestBy, newestOff}
+use Rattle.rules.specs.Model.{Label}
+use Rattle.rules.specs.Labels.{rowRead, gapRead, gapOff, whyOff, beforeOff, compareOff, newer, newestBy, newestOff}
 use Rattle.rules.specs.Replies.{rowOf, comparedSays}
 use Rattle.rules.proofs.Setups.{Permitted, permitted}
 use Rattle.book.specs.Stamps.{readStamp}
 use Rattle.comparing.specs.declared.Way.{Way}
 use Rattle.comparing.specs.Ways.{gapOf, WayOf}
 use Rattle.comparing.proofs.Ways.{before-is, relation-is}
+use Rattle.tools.proofs.Tables.{none-some}
 use Rattle.labels.specs.declared.Owner.{Owner}
 use Rattle.labels.specs.declared.Owner.the-variants.{Of, Refused}
 use Rattle.labels.specs.Records.{readAs, ownerSays, Readable, Between, newestPart}
@@ -37,18 +39,14 @@ module _ (X : Setup) (r : List ℕ) (w : Owner) (l : List ℕ) (told : ownerSays
     where
       go : (o : Option Label) → ownerSays (Of j) l ≡ readAs o → o ≡ some (record { owner = j; row = rowOf l })
       go none q = absurd (let z = ap (λ (a : Answer). a .number) q in omega arith)
-      go (some s) q =
-          let v = ap (λ (a : Answer). a .value) q in
-          let a : s .owner ≡ j = cc in
-          let b : s .row ≡ rowOf l = cc in
-          λ i. some record { owner = a i; row = b i }
+      go (some s) q = sym (ap (λ (a : Answer). a .value .stamp) q)
 
   pub none-read : (n : ℕ) → w ≡ Refused n → readStamp X r ≡ none
   none-read n e = go (readStamp X r) (sym (ap (λ (v : Owner). ownerSays v l) e) ∙ told)
     where
       go : (o : Option Label) → ownerSays (Refused n) l ≡ readAs o → o ≡ none
       go none q = refl
-      go (some s) q = absurd (let v = ap (λ (a : Answer). a .value) q in let z : _≡_ {A = ℕ} 0 1 = cc in omega arith)
+      go (some s) q = absurd (none-some (ap (λ (a : Answer). a .value .stamp) q))
 
 -- the difference off the book, as a way has it: ahead, and back
 module _ (X : Setup) (j : ℕ) (e f : Row) where

@@ -4,8 +4,8 @@ use Prim.Native.Nat.{ℕ}
 use mathlib.Core.Path.{_≡_, sym, ap, _∙_}
 use mathlib.Core.List.{List}
 use lib.ListN.{length}
-use Rattle.rules.specs.Model.{Answer}
-use Rattle.rules.specs.Replies.{rowOf}
+use Rattle.tools.proofs.Tables.{some-is, none-some}
+use Rattle.rules.specs.Model.{Label, Answer}
 use Rattle.rules.proofs.RowBytes.{row-once}
 use Rattle.labels.specs.declared.Owner.{Owner}
 use Rattle.labels.specs.declared.Owner.the-variants.{Of, Refused}
@@ -20,13 +20,12 @@ reading-once r r′ e b b′ n n′ = go (r .who) (r .row) (r′ .who) (r′ .ro
         → length l ≡ 16 → length l′ ≡ 16
         → _≡_ {A = Reading} (record { who = w; row = l }) (record { who = w′; row = l′ })
     go (Of j) l (Of j′) l′ e b b′ n n′ =
-        let v = ap (λ (a : Answer). a .value) e in
-        let o : j ≡ j′ = cc in
-        let q : rowOf l ≡ rowOf l′ = cc in
-        let s = row-once l l′ n n′ q in
+        let v = some-is (ap (λ (a : Answer). a .value .stamp) e) in
+        let o = ap (λ (x : Label). x .owner) v in
+        let s = row-once l l′ n n′ (ap (λ (x : Label). x .row) v) in
         λ i. record { who = Of (o i); row = s i }
-    go (Of j) l (Refused m) l′ e b b′ n n′ = let v = ap (λ (a : Answer). a .value) e in cc
-    go (Refused m) l (Of j) l′ e b b′ n n′ = let v = ap (λ (a : Answer). a .value) e in cc
+    go (Of j) l (Refused m) l′ e b b′ n n′ = absurd (none-some (sym (ap (λ (a : Answer). a .value .stamp) e)))
+    go (Refused m) l (Of j) l′ e b b′ n n′ = absurd (none-some (ap (λ (a : Answer). a .value .stamp) e))
     go (Refused m) l (Refused m′) l′ e b b′ n n′ =
         let v = ap (λ (a : Answer). a .number) e in
         let s = b ∙ sym b′ in

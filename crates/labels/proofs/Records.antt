@@ -18,7 +18,7 @@ use Rattle.tools.proofs.Lists.{length-tab, tab-at, is-tab}
 use Rattle.ring.specs.Phases.{Pair}
 use Rattle.rules.specs.declared.Setup.{Setup}
 use Rattle.rules.specs.Model.{zeros, grown, fresh}
-use Rattle.rules.specs.Labels.{Label}
+use Rattle.rules.specs.Model.{Label}
 use Rattle.rules.specs.Replies.{rowByte, rowBytes}
 use Rattle.book.specs.Layout.{markedByte}
 use Rattle.book.specs.Stamps.{stampByte, writeStamp, labelOf, pairReads, readOk, readStamp}

@@ -19,7 +19,8 @@ use Rattle.rules.specs.declared.Setup.{Setup}
 use Rattle.rules.specs.Setups.{permits}
 use Rattle.rules.specs.Numbers.{BadStamp, number}
 use Rattle.rules.specs.Model.{stamp, Answer, refusal, accepted}
-use Rattle.rules.specs.Labels.{Label, reads, ownerIn, rowRead, gapRead, whyOff, newestOff, Which, First, Second, Neither}
+use Rattle.rules.specs.Model.{Label}
+use Rattle.rules.specs.Labels.{reads, ownerIn, rowRead, gapRead, whyOff, newestOff, Which, First, Second, Neither}
 use Rattle.rules.specs.Replies.{rowOf}
 use Rattle.book.specs.Stamps.{pairReads, readStamp}
 use Rattle.comparing.specs.declared.Way.{Way}

@@ -15,15 +15,16 @@ use Rattle.tools.specs.Tables.{Each}
 use Rattle.tools.proofs.Tables.{put-same, some-is, none-some}
 use Rattle.ring.specs.Phases.{Pair, ring}
 use Rattle.rules.specs.declared.Setup.{Setup}
-use Rattle.rules.specs.Model.{Row, Seat, Held, Tables, Act, local, reset, keep, drop, discard, show, send, receive, before, compare, write}
-use Rattle.rules.specs.Model.{Answer, byIn, rowIn, used, why, done, step, settle}
-use Rattle.rules.specs.Labels.{Label, newestOff}
+use Rattle.rules.specs.Model.{Row, Seat, Held, Tables, Label, Question, askBefore, askCompare, askShow, askWrite, slotAsked}
+use Rattle.rules.specs.Model.{Act, local, reset, keep, drop, discard, send, receive, ask, before, compare, write, slotOf}
+use Rattle.rules.specs.Model.{Answer, byIn, rowIn, used, why, askTells, done, step, settle}
+use Rattle.rules.specs.Labels.{newestOff}
 use Rattle.book.specs.Fits.{PairFits, RowFits, SlotFits, Fits}
 use Rattle.rules.specs.Setups.{permits}
 use Rattle.rules.specs.Calls.{Book, Call, start, on, call}
 use Rattle.history.specs.History.{State, begin, next, after, logAfter, setupAfter}
 use Rattle.history.specs.Round.{roundBook}
-use Rattle.history.specs.Stamps.{labelOf, slotOf, ownerAt, stampIn, stampGiven, Answered}
+use Rattle.history.specs.Stamps.{labelOf, ownerAt, stampIn, stampGiven, Answered}
 use Rattle.history.specs.Demand.{InReach, BeforeSaid, CompareSaid}
 use Rattle.history.proofs.Labels.{off-before, off-compare, off-newest}
 use Rattle.history.proofs.Agree.{state-agree-before, state-agree-compare}
@@ -31,7 +32,7 @@ use Rattle.history.proofs.Alike.{ring-book}
 use Rattle.rules.proofs.Setups.{Permitted, permitted}
 use Rattle.history.proofs.Runs.{after-append}
 use Rattle.history.proofs.Stamps.{next-setup, setup-stays}
-use Rattle.rules.proofs.Accepted.{no-local, no-send, no-receive, no-reset, no-show, no-write}
+use Rattle.rules.proofs.Accepted.{no-local, no-send, no-receive, no-reset, no-ask}
 use Rattle.book.proofs.Fits.{done-fits}
 use Rattle.book.specs.Codec.{decode}
 use Rattle.book.specs.Stamps.{pairReads, writeStamp, readStamp, filled}
@@ -72,6 +73,16 @@ module _ (X : Setup) (ok : Permitted X) (b : Tables) (w : Fits X b) where
       (row-label X _ (X .seatLag) j r l
       (subst (RowFits X _ (X .seatLag)) q (done-fits X ok b w c z .seats j l)))
 
+  ask-label : (q : Question) → why (ring (X .phases)) X b (ask q) ≡ 0 → (e : Label)
+      → stampIn (ownerAt b (slotAsked q)) (askTells (ring (X .phases)) X b q) ≡ some e → Readable X e
+  unfolding askTells
+  ask-label (askBefore s t) z e p = absurd (none-some p)
+  ask-label (askCompare s t) z e p = absurd (none-some p)
+  ask-label (askShow s) z e p =
+      subst (Readable X) (some-is p) (held-label X _ s (b .shelf s) (w .shelf s) (no-ask _ X b (askShow s) s refl z .0))
+  ask-label (askWrite s room) z e p =
+      subst (Readable X) (some-is p) (held-label X _ s (b .shelf s) (w .shelf s) (no-ask _ X b (askWrite s room) s refl z .0))
+
   done-label : (c : Act) → why (ring (X .phases)) X b c ≡ 0 → (e : Label)
       → stampIn (ownerAt b (slotOf c)) (done (ring (X .phases)) X b c .answer .value) ≡ some e → Readable X e
   unfolding done
@@ -86,12 +97,7 @@ module _ (X : Setup) (ok : Permitted X) (b : Tables) (w : Fits X b) where
   done-label (keep j) z e p = absurd (none-some p)
   done-label (drop s) z e p = absurd (none-some p)
   done-label (discard i) z e p = absurd (none-some p)
-  done-label (before s t) z e p = absurd (none-some p)
-  done-label (compare s t) z e p = absurd (none-some p)
-  done-label (show s) z e p =
-      subst (Readable X) (some-is p) (held-label X _ s (b .shelf s) (w .shelf s) (no-show _ X b s z .0))
-  done-label (write s room) z e p =
-      subst (Readable X) (some-is p) (held-label X _ s (b .shelf s) (w .shelf s) (no-write _ X b s room z .0))
+  done-label (ask q) z e p = ask-label q z e p
 
   -- every stamp that an act is answered is in range
   pub step-label : (c : Act) (e : Label)
@@ -107,7 +113,7 @@ module _ (X : Setup) (ok : Permitted X) (b : Tables) (w : Fits X b) where
 -- the bytes that write fills in are the record of the stamp that it is answered
 pub written-record : (s : List ℕ) (i : ℕ) (t : List ℕ) (e : Label) → stampFrom s (write i (length t)) ≡ some e
     → targetAfter s i t ≡ filled t (writeStamp (decode s .setup .desks) e)
-unfolding done
+unfolding done askTells
 written-record s i t e g = go (numberOf s (write i (length t))) refl
   where
     go : (n : ℕ) → numberOf s (write i (length t)) ≡ n → targetAfter s i t ≡ filled t (writeStamp (decode s .setup .desks) e)

@@ -9,11 +9,11 @@ use mathlib.Core.Option.{Option, some}
 use mathlib.Core.List.{List, _∷_, _++_}
 use Prim.Native.Nat.{ℕ}
 use Rattle.rules.specs.declared.Setup.{Setup}
-use Rattle.rules.specs.Model.{Act}
+use Rattle.rules.specs.Model.{Label, Act, slotOf}
 use Rattle.rules.specs.Calls.{Call, start, on}
-use Rattle.rules.specs.Labels.{Label, Which}
+use Rattle.rules.specs.Labels.{Which}
 use Rattle.history.specs.History.{Log, begin, after, setupAfter}
-use Rattle.history.specs.Stamps.{slotOf, ownerAt, stampIn, eventOf, Ongoing}
+use Rattle.history.specs.Stamps.{ownerAt, stampIn, eventOf, Ongoing}
 use Rattle.book.specs.Codec.{decode}
 use Rattle.history.specs.Demand.{Newer}
 use Rattle.book.specs.Stamps.{writeStamp}

@@ -5,18 +5,20 @@
 --   pairs D r         the pairs of the first D desks
 --   stampText D o r   the owner and D pairs
 --   wordText w        a space and the relation in words
---   valueText D v     what stands after the number, in a book of D desks
---   answerText D a    the line
+--   verdictText t     a space and yes or no
+--   then s f o        the text s, and behind it f of what o holds, if it holds something
+--   answerText D a    the line in a book of D desks: the number, then each part of the value that is there
 --   Printable D a     there are at most eight desks, where their pairs may be asked for
 use Prim.Native.Nat.{ℕ, zero, suc, _≤_}
 use mathlib.Core.Path.{_≡_}
-use mathlib.Core.Bool.{true, false}
+use mathlib.Core.Bool.{Bool, true, false}
+use mathlib.Core.Option.{Option, none, some}
 use mathlib.Core.List.{List, [], _∷_, _++_}
 use Rattle.text.specs.Words.{ascii}
 use Rattle.text.specs.Put.{three, field}
 use Rattle.rules.specs.declared.Relation.{Relation}
 use Rattle.rules.specs.declared.Relation.the-variants.{Before, After, Same, Concurrent, Crossed}
-use Rattle.rules.specs.Model.{Row, Value, nothing, stamp, sent, slot, says, relates, shows, Answer}
+use Rattle.rules.specs.Model.{Row, Label, Answer}
 
 abbrev pub pair : ℕ → ℕ → List ℕ
 pair p c = field p ++ 46 ∷ three c
@@ -35,19 +37,22 @@ wordText Same = ascii " same"
 wordText Concurrent = ascii " concurrent"
 wordText Crossed = ascii " crossed"
 
--- no line asks for a row to be shown
-abbrev pub valueText : ℕ → Value → List ℕ
-valueText D nothing = []
-valueText D (stamp j r) = stampText D j r
-valueText D (sent p j r) = field p ++ stampText D j r
-valueText D (slot s) = field s
-valueText D (says true) = ascii " yes"
-valueText D (says false) = ascii " no"
-valueText D (relates w) = wordText w
-valueText D (shows r) = []
+abbrev pub verdictText : Bool → List ℕ
+verdictText true = ascii " yes"
+verdictText false = ascii " no"
 
+abbrev pub then : {A : Type 0} → List ℕ → (A → List ℕ) → Option A → List ℕ
+then s f none = s
+then s f (some a) = s ++ f a
+
+-- no line asks for a row to be shown
 abbrev pub answerText : ℕ → Answer → List ℕ
-answerText D a = three (a .number) ++ valueText D (a .value) ++ (10 ∷ [])
+answerText D a =
+    let placed = then (three (a .number)) field (a .value .place) in
+    let stamped = then placed (λ (e : Label). stampText D (e .owner) (e .row)) (a .value .stamp) in
+    let kept = then stamped field (a .value .slot) in
+    let told = then kept verdictText (a .value .verdict) in
+    then told wordText (a .value .relation) ++ (10 ∷ [])
 
 abbrev pub Printable : ℕ → Answer → Type 0
 Printable D a = a .number ≡ 0 → D ≤ 8

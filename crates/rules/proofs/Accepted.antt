@@ -1,17 +1,19 @@
 -- What an accepted act was not refused by: each law takes apart that no reason was given.
 -- Assumes nothing.
-use mathlib.Core.Path.{_≡_}
+use mathlib.Core.Path.{_≡_, subst}
+use mathlib.Core.Option.{some}
 use mathlib.Core.Bool.{true, false, not, _&&_, _||_}
 use Prim.Native.Nat.{ℕ, _+_, _*_, _<_}
 use lib.Dec.{ltb, eqb}
 use borrow.Author.Tests.{eqb-false, ltb-true}
 use Rattle.tools.specs.Tests.{any}
 use Rattle.tools.proofs.Tests.{any-false, not-off, and-true-l, and-true-r, or-false-l, or-false-r}
+use Rattle.tools.proofs.Tables.{some-is, none-some}
 use Rattle.tools.proofs.Reasons.{clear}
 use Rattle.ring.specs.Phases.{Phases}
 use Rattle.rules.specs.declared.Setup.{Setup}
-use Rattle.rules.specs.Model.{Tables, local, reset, keep, show, send, receive, write, reasons, why, freeMail, freeSlot}
-use Rattle.rules.specs.Model.{toIn, used, own, lags, seatLags}
+use Rattle.rules.specs.Model.{Tables, Question, askBefore, askCompare, askShow, askWrite, slotAsked, local, reset, keep, send, receive, ask, askReasons, reasons, why}
+use Rattle.rules.specs.Model.{freeMail, freeSlot, toIn, used, own, lags, seatLags}
 
 pub no-local : (Z : Phases) (X : Setup) (b : Tables) (j : ℕ) → why Z X b (local j) ≡ 0 → (j < X .desks) × (own b j .clock + 1 < X .clocks)
 unfolding reasons
@@ -77,12 +79,15 @@ used-slot b s e =
     let both = not-off _ e in
     (and-true-l _ _ both, ltb-true _ _ (and-true-r (used (b .shelf s)) (ltb s 32) both))
 
-pub no-show : (Z : Phases) (X : Setup) (b : Tables) (s : ℕ) → why Z X b (show s) ≡ 0
+-- a question hands out no stamp but that of a used slot
+pub no-ask : (Z : Phases) (X : Setup) (b : Tables) (q : Question) (s : ℕ) → slotAsked q ≡ some s → why Z X b (ask q) ≡ 0
     → (used (b .shelf s) ≡ true) × (s < 32)
-unfolding reasons
-no-show Z X b s e = used-slot b s (clear (not (used (b .shelf s) && ltb s 32)) 4 _ e .0)
-
-pub no-write : (Z : Phases) (X : Setup) (b : Tables) (s room : ℕ) → why Z X b (write s room) ≡ 0
-    → (used (b .shelf s) ≡ true) × (s < 32)
-unfolding reasons
-no-write Z X b s room e = used-slot b s (clear (not (used (b .shelf s) && ltb s 32)) 4 _ e .0)
+unfolding reasons askReasons
+no-ask Z X b (askBefore u t) s e z = absurd (none-some e)
+no-ask Z X b (askCompare u t) s e z = absurd (none-some e)
+no-ask Z X b (askShow u) s e z =
+    subst (λ n. (used (b .shelf n) ≡ true) × (n < 32)) (some-is e)
+    (used-slot b u (clear (not (used (b .shelf u) && ltb u 32)) 4 _ z .0))
+no-ask Z X b (askWrite u room) s e z =
+    subst (λ n. (used (b .shelf n) ≡ true) × (n < 32)) (some-is e)
+    (used-slot b u (clear (not (used (b .shelf u) && ltb u 32)) 4 _ z .0))

@@ -16,8 +16,8 @@ use Rattle.ring.specs.Phases.{Phases, Gap}
 use Rattle.rules.specs.declared.Setup.{Setup}
 use Rattle.rules.specs.Numbers.{Name, NoDesk, SameDesk, NoPlace, NotYours, NoEvent, PhaseFull, MailFull, ShelfFull, SeatBehind}
 use Rattle.rules.specs.Numbers.{MailBehind, ShelfBehind, NoRoom, OutOfReach, number}
-use Rattle.rules.specs.Model.{Held, Tables, Act, local, reset, keep, drop, discard, show, send, receive, before, compare, write, step}
-use Rattle.rules.specs.Model.{used, toIn, own, atLimit, lags, near, isOut, gapHeld, reasons}
+use Rattle.rules.specs.Model.{Held, Tables, Act, local, reset, keep, drop, discard, send, receive, ask, askBefore, askCompare, askShow, askWrite, before, compare, step}
+use Rattle.rules.specs.Model.{used, toIn, own, atLimit, lags, near, isOut, gapHeld, askReasons, reasons}
 use Rattle.rules.specs.Due.{at-local, at-send, at-sent, at-receive, at-reset, at-keep, by-local, by-send, by-receive, of-receive}
 use Rattle.rules.specs.Due.{of-discard, OfSlot, of-drop, of-before, of-before′, of-compare, of-compare′, of-show, of-write, Asks}
 use Rattle.rules.specs.Due.{asks-before, asks-compare, asks-back, Gone, lagIn, Beyond, Due, no-desk, same-desk, no-mail, no-slot}
@@ -99,7 +99,7 @@ module _ (Z : Phases) (X : Setup) (b : Tables) where
 
   -- a row that is due stands in the list of reasons, by its number
   listed : {c : Act} {w : Name} → Due Z X b c w → Holds (reasons Z X b c) (number w)
-  unfolding reasons
+  unfolding reasons askReasons
   listed (no-desk (at-local {j = j}) l) = inl (refl, at-least j (X .desks) l)
   listed (no-desk (at-send {j = j} {k = k}) l) = inl (refl, or-left _ _ (at-least j (X .desks) l))
   listed (no-desk (at-sent {j = j} {k = k}) l) = inl (refl, or-right (not (ltb j (X .desks))) _ (at-least k (X .desks) l))
@@ -164,7 +164,7 @@ module _ (Z : Phases) (X : Setup) (b : Tables) where
       go (inr h) = due NoPlace q (no-slot ot (is-gone t (b .shelf t) h))
 
   told : (c : Act) (k : ℕ) → Holds (reasons Z X b c) k → Down c k
-  unfolding reasons
+  unfolding reasons askReasons
   told (local j) k (inl (q, h)) = due NoDesk q (no-desk at-local (is-least _ _ h))
   told (local j) k (inr (inl (q, h))) = due PhaseFull q (phase-full by-local (is-at-limit j h))
   told (local j) k (inr (inr h)) = absurd h
@@ -204,22 +204,22 @@ module _ (Z : Phases) (X : Setup) (b : Tables) where
   told (drop s) k (inr h) = absurd h
   told (discard p) k (inl (q, h)) = due NoPlace q (no-mail of-discard (is-gone p (b .mail p) h))
   told (discard p) k (inr h) = absurd h
-  told (before s t) k (inl (q, h)) = no-two (before s t) s t of-before of-before′ k q h
-  told (before s t) k (inr (inl (q, h))) = out (before s t) s t of-before of-before′ asks-before k q h
-  told (before s t) k (inr (inr h)) = absurd h
-  told (compare s t) k (inl (q, h)) = no-two (compare s t) s t of-compare of-compare′ k q h
-  told (compare s t) k (inr (inl (q, h))) = go (either (isOut (gapHeld Z X b (b .shelf s) (b .shelf t))) _ h)
+  told (ask (askBefore s t)) k (inl (q, h)) = no-two (before s t) s t of-before of-before′ k q h
+  told (ask (askBefore s t)) k (inr (inl (q, h))) = out (before s t) s t of-before of-before′ asks-before k q h
+  told (ask (askBefore s t)) k (inr (inr h)) = absurd h
+  told (ask (askCompare s t)) k (inl (q, h)) = no-two (compare s t) s t of-compare of-compare′ k q h
+  told (ask (askCompare s t)) k (inr (inl (q, h))) = go (either (isOut (gapHeld Z X b (b .shelf s) (b .shelf t))) _ h)
     where
       go : (isOut (gapHeld Z X b (b .shelf s) (b .shelf t)) ≡ true) ⊎ (isOut (gapHeld Z X b (b .shelf t) (b .shelf s)) ≡ true)
           → Down (compare s t) k
       go (inl h) = out (compare s t) s t of-compare of-compare′ asks-compare k q h
       go (inr h) = out (compare s t) t s of-compare′ of-compare asks-back k q h
-  told (compare s t) k (inr (inr h)) = absurd h
-  told (show s) k (inl (q, h)) = due NoPlace q (no-slot of-show (is-gone s (b .shelf s) h))
-  told (show s) k (inr h) = absurd h
-  told (write s room) k (inl (q, h)) = due NoPlace q (no-slot of-write (is-gone s (b .shelf s) h))
-  told (write s room) k (inr (inl (q, h))) = due NoRoom q (no-room (ltb-true _ _ h))
-  told (write s room) k (inr (inr h)) = absurd h
+  told (ask (askCompare s t)) k (inr (inr h)) = absurd h
+  told (ask (askShow s)) k (inl (q, h)) = due NoPlace q (no-slot of-show (is-gone s (b .shelf s) h))
+  told (ask (askShow s)) k (inr h) = absurd h
+  told (ask (askWrite s room)) k (inl (q, h)) = due NoPlace q (no-slot of-write (is-gone s (b .shelf s) h))
+  told (ask (askWrite s room)) k (inr (inl (q, h))) = due NoRoom q (no-room (ltb-true _ _ h))
+  told (ask (askWrite s room)) k (inr (inr h)) = absurd h
 
   back : (c : Act) (k : ℕ) → DueNumber Z X b c k → (i : ℕ) × (i ≤ k) × Holds (reasons Z X b c) i
   back c k (w, q, d) = (number w, omega arith, listed d)

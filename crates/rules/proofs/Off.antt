@@ -12,7 +12,8 @@ use Rattle.rules.specs.declared.Relation.the-variants.{Before, After, Sa
 use Rattle.rules.specs.Setups.{permits}
 use Rattle.rules.specs.Model.{Row, relates}
 use Rattle.rules.specs.Calls.{Book, start, freshBook, call}
-use Rattle.rules.specs.Labels.{Label, gapOff, compareOff, First, Second, newestBy, newestOff}
+use Rattle.rules.specs.Model.{Label}
+use Rattle.rules.specs.Labels.{gapOff, compareOff, First, Second, newestBy, newestOff}
 
 module _ (X : Setup) (j : ℕ) (e f : Row) where
   -- the phase in f minus the phase in e, on the ring

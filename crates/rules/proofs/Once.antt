@@ -7,6 +7,7 @@ use borrow.Author.Tests.{ne-eqb}
 use lib.Dec.{eqb}
 use lib.ListN.{length}
 use Rattle.tools.specs.Tests.{pick}
+use Rattle.tools.proofs.Tables.{some-is}
 use Rattle.rules.specs.declared.Stamp.{Stamp}
 use Rattle.rules.specs.declared.Stamped.{Stamped}
 use Rattle.rules.specs.declared.Sent.{Sent}
@@ -18,12 +19,21 @@ use Rattle.rules.specs.declared.Told.{Told}
 use Rattle.rules.specs.declared.Told.the-variants as Tells
 use Rattle.rules.specs.declared.Compared.{Compared}
 use Rattle.rules.specs.declared.Compared.the-variants as Compares
-use Rattle.rules.specs.Model.{Value, stamp, Answer, refusal, accepted}
+use Rattle.rules.specs.Model.{Label, Value, stamp, Answer, refusal, accepted}
 use Rattle.rules.specs.Replies.{rowOf, stampedSays, postedSays, keptSays, toldSays, comparedSays, Beside, BesidePost}
 use Rattle.rules.proofs.RowBytes.{row-once}
 
-same-value : (a b : Answer) → a ≡ b → a .value ≡ b .value
-same-value a b e = ap (λ (a : Answer). a .value) e
+same-stamp : (a b : Answer) → a ≡ b → a .value .stamp ≡ b .value .stamp
+same-stamp a b e = ap (λ (a : Answer). a .value .stamp) e
+
+same-slot : (a b : Answer) → a ≡ b → a .value .slot ≡ b .value .slot
+same-slot a b e = ap (λ (a : Answer). a .value .slot) e
+
+same-verdict : (a b : Answer) → a ≡ b → a .value .verdict ≡ b .value .verdict
+same-verdict a b e = ap (λ (a : Answer). a .value .verdict) e
+
+same-relation : (a b : Answer) → a ≡ b → a .value .relation ≡ b .value .relation
+same-relation a b e = ap (λ (a : Answer). a .value .relation) e
 
 -- start, drop and discard
 pub number-once : (n n′ : ℕ) → refusal n ≡ refusal n′ → n ≡ n′
@@ -31,28 +41,28 @@ number-once n n′ e = ap (λ (a : Answer). a .number) e
 
 -- keep
 pub kept-once : (r r′ : Kept) → keptSays r ≡ keptSays r′ → r ≡ r′
-kept-once (Keeps.Slot s) (Keeps.Slot s′) e = let v = same-value _ _ e in cc
-kept-once (Keeps.Slot s) (Keeps.Refused n) e = let v = same-value _ _ e in cc
-kept-once (Keeps.Refused n) (Keeps.Slot s) e = let v = same-value _ _ e in cc
+kept-once (Keeps.Slot s) (Keeps.Slot s′) e = let v = same-slot _ _ e in cc
+kept-once (Keeps.Slot s) (Keeps.Refused n) e = let v = same-slot _ _ e in cc
+kept-once (Keeps.Refused n) (Keeps.Slot s) e = let v = same-slot _ _ e in cc
 kept-once (Keeps.Refused n) (Keeps.Refused n′) e = let n = number-once _ _ e in cc
 
 -- before
 pub told-once : (r r′ : Told) → toldSays r ≡ toldSays r′ → r ≡ r′
 told-once Tells.Yes Tells.Yes e = refl
-told-once Tells.Yes Tells.No e = let v = same-value _ _ e in cc
-told-once Tells.Yes (Tells.Refused n) e = let v = same-value _ _ e in cc
-told-once Tells.No Tells.Yes e = let v = same-value _ _ e in cc
+told-once Tells.Yes Tells.No e = let v = same-verdict _ _ e in cc
+told-once Tells.Yes (Tells.Refused n) e = let v = same-verdict _ _ e in cc
+told-once Tells.No Tells.Yes e = let v = same-verdict _ _ e in cc
 told-once Tells.No Tells.No e = refl
-told-once Tells.No (Tells.Refused n) e = let v = same-value _ _ e in cc
-told-once (Tells.Refused n) Tells.Yes e = let v = same-value _ _ e in cc
-told-once (Tells.Refused n) Tells.No e = let v = same-value _ _ e in cc
+told-once Tells.No (Tells.Refused n) e = let v = same-verdict _ _ e in cc
+told-once (Tells.Refused n) Tells.Yes e = let v = same-verdict _ _ e in cc
+told-once (Tells.Refused n) Tells.No e = let v = same-verdict _ _ e in cc
 told-once (Tells.Refused n) (Tells.Refused n′) e = let n = number-once _ _ e in cc
 
 -- compare
 pub compared-once : (r r′ : Compared) → comparedSays r ≡ comparedSays r′ → r ≡ r′
-compared-once (Compares.Is x) (Compares.Is x′) e = let v = same-value _ _ e in cc
-compared-once (Compares.Is x) (Compares.Refused n) e = let v = same-value _ _ e in cc
-compared-once (Compares.Refused n) (Compares.Is x) e = let v = same-value _ _ e in cc
+compared-once (Compares.Is x) (Compares.Is x′) e = let v = same-relation _ _ e in cc
+compared-once (Compares.Is x) (Compares.Refused n) e = let v = same-relation _ _ e in cc
+compared-once (Compares.Refused n) (Compares.Is x) e = let v = same-relation _ _ e in cc
 compared-once (Compares.Refused n) (Compares.Refused n′) e = let n = number-once _ _ e in cc
 
 -- a stamp, of sixteen row bytes
@@ -78,9 +88,9 @@ stamped-once r r′ e b b′ l l′ =
         → Beside n x → Beside n′ x′ → length (x .row) ≡ 16 → length (x′ .row) ≡ 16
         → _≡_ {A = Stamped} (record { number = n; stamp = x }) (record { number = n′; stamp = x′ })
     go zero x zero x′ m e b b′ l l′ =
-        let v = same-value _ _ e in
-        let o : x .owner ≡ x′ .owner = cc in
-        let q : rowOf (x .row) ≡ rowOf (x′ .row) = cc in
+        let v = some-is (same-stamp _ _ e) in
+        let o = ap (λ (l : Label). l .owner) v in
+        let q = ap (λ (l : Label). l .row) v in
         ap (λ (y : Stamp). record { number = 0; stamp = y }) (stamp-once x x′ l l′ o q)
     go zero x (suc n′) x′ m e b b′ l l′ = absurd (omega arith)
     go (suc n) x zero x′ m e b b′ l l′ = absurd (omega arith)
@@ -98,14 +108,14 @@ sent-once r r′ e b b′ l l′ = go (r .place) (r .stamp) (r′ .place) (r′ 
         → length (x .row) ≡ 16 → length (x′ .row) ≡ 16
         → _≡_ {A = Sent} (record { place = p; stamp = x }) (record { place = p′; stamp = x′ })
     go (Posts.At p) x (Posts.At p′) x′ e b b′ l l′ =
-        let v = same-value _ _ e in
-        let m : p ≡ p′ = cc in
-        let o : x .owner ≡ x′ .owner = cc in
-        let q : rowOf (x .row) ≡ rowOf (x′ .row) = cc in
+        let v = some-is (same-stamp _ _ e) in
+        let m = some-is (ap (λ (a : Answer). a .value .place) e) in
+        let o = ap (λ (l : Label). l .owner) v in
+        let q = ap (λ (l : Label). l .row) v in
         let t = stamp-once x x′ l l′ o q in
         λ i. record { place = Posts.At (m i); stamp = t i }
-    go (Posts.At p) x (Posts.Refused n) x′ e b b′ l l′ = let v = same-value _ _ e in cc
-    go (Posts.Refused n) x (Posts.At p) x′ e b b′ l l′ = let v = same-value _ _ e in cc
+    go (Posts.At p) x (Posts.Refused n) x′ e b b′ l l′ = let v = same-stamp _ _ e in cc
+    go (Posts.Refused n) x (Posts.At p) x′ e b b′ l l′ = let v = same-stamp _ _ e in cc
     go (Posts.Refused n) x (Posts.Refused n′) x′ e b b′ l l′ =
         let m = number-once n n′ e in
         let t = b ∙ sym b′ in

@@ -9,13 +9,21 @@ use Rattle.tools.specs.Reasons.{first, ascending, Holds, Smallest}
 use Rattle.tools.proofs.Reasons.{first-smallest}
 use Rattle.ring.specs.Phases.{Phases}
 use Rattle.rules.specs.declared.Setup.{Setup}
-use Rattle.rules.specs.Model.{Tables, Act, local, reset, keep, drop, discard, show, send, receive, before, compare, write, Value}
-use Rattle.rules.specs.Model.{refusal, isOut, reasons, step}
+use Rattle.rules.specs.Model.{Tables, Question, askBefore, askCompare, askShow, askWrite, Act, local, reset, keep, drop, discard, send, receive, ask, Value}
+use Rattle.rules.specs.Model.{refusal, isOut, askReasons, reasons, step}
 use Rattle.rules.specs.Calls.{reasonsOf, Book, Call, start, on, Turn, settled, turnOf, call}
-use Rattle.rules.specs.Labels.{reasonsOff, Label, Neither, gapRead, whyOff, settleOff, beforeOff, compareOff, newestBy, newestOff}
+use Rattle.rules.specs.Model.{Label}
+use Rattle.rules.specs.Labels.{reasonsOff, Neither, gapRead, whyOff, settleOff, beforeOff, compareOff, newestBy, newestOff}
 use Rattle.rules.proofs.Steps.{step-number, step-only}
 
 module _ (Z : Phases) (X : Setup) (b : Tables) where
+  ask-rising : (q : Question) → ascending (askReasons Z X b q) ≡ true
+  unfolding askReasons
+  ask-rising (askBefore s t) = refl
+  ask-rising (askCompare s t) = refl
+  ask-rising (askShow s) = refl
+  ask-rising (askWrite s room) = refl
+
   rising : (c : Act) → ascending (reasons Z X b c) ≡ true
   unfolding reasons
   rising (local j) = refl
@@ -25,10 +33,7 @@ module _ (Z : Phases) (X : Setup) (b : Tables) where
   rising (keep j) = refl
   rising (drop s) = refl
   rising (discard p) = refl
-  rising (before s t) = refl
-  rising (compare s t) = refl
-  rising (show s) = refl
-  rising (write s room) = refl
+  rising (ask q) = ask-rising q
 
   pub act-number : (c : Act) → Smallest (Holds (reasons Z X b c)) (step Z X b c .answer .number)
   act-number c = rw (step-number Z X b c) (first-smallest (reasons Z X b c) (rising c))

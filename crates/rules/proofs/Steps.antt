@@ -4,7 +4,7 @@ use mathlib.Core.Path.{_≡_, refl, ap, _∙_}
 use Prim.Native.Nat.{ℕ, zero, suc}
 use Rattle.ring.specs.Phases.{Phases}
 use Rattle.rules.specs.declared.Setup.{Setup}
-use Rattle.rules.specs.Model.{Tables, Act, local, reset, keep, drop, discard, show, send, receive, before, compare, write, refusal}
+use Rattle.rules.specs.Model.{Tables, Act, local, reset, keep, drop, discard, send, receive, ask, refusal}
 use Rattle.rules.specs.Model.{Result, step, done, why, settle}
 
 module _ (Z : Phases) (X : Setup) (b : Tables) (c : Act) where
@@ -17,10 +17,7 @@ module _ (Z : Phases) (X : Setup) (b : Tables) (c : Act) where
   done-zero (keep j) = refl
   done-zero (drop s) = refl
   done-zero (discard p) = refl
-  done-zero (before s t) = refl
-  done-zero (compare s t) = refl
-  done-zero (show s) = refl
-  done-zero (write s room) = refl
+  done-zero (ask q) = refl
 
   pub step-number : step Z X b c .answer .number ≡ why Z X b c
   unfolding step

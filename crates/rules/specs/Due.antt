@@ -34,24 +34,7 @@ use Rattle.rules.specs.Numbers.{
   OutOfReach,
   number,
 }
-use Rattle.rules.specs.Model.{
-  Held,
-  Tables,
-  Act,
-  local,
-  reset,
-  keep,
-  drop,
-  discard,
-  show,
-  send,
-  receive,
-  before,
-  compare,
-  write,
-  used,
-  own,
-}
+use Rattle.rules.specs.Model.{Held, Tables, Act, local, reset, keep, drop, discard, show, send, receive, before, compare, write, used, own}
 
 pub data AtDesk : Act → ℕ → Type 0 where
   at-local : {j : ℕ} → AtDesk (local j) j

@@ -1,6 +1,5 @@
 -- Before, compare and newest off the book: given a setup and two stamp records.
 -- Assumes nothing.
---   Label               a stamp: its owner and its row
 --   gapOff X j e f      the difference from e to f at desk j that two phases of a ring show, none beyond reach
 --   reads, ownerIn, rowRead   of a record as it reads: whether it does, its owner, its row; 0 and zeros where it does not
 --   gapRead X e f       the same of two records as they read, at the first one's owner
@@ -11,7 +10,8 @@
 --   compareOff X e f    the answer to compare
 --   Which               one of two lent records, or neither
 --   newer r             the one that is after the other by the relation r; the first if they are the same
---   newestBy v          the same by a value that is a relation; neither by any other
+--   newerIn o           the same by a relation that may be none; neither then
+--   newestBy v          the same by the relation in a value; neither where it has none
 --   newestOff X e f     the record that is after the other; neither where compare is refused
 use mathlib.Core.Bool.{Bool, true, false, not, _||_}
 use mathlib.Core.Option.{Option, none, some}
@@ -26,29 +26,7 @@ use Rattle.rules.specs.declared.Relation.{Relation}
 use Rattle.rules.specs.declared.Relation.the-variants.{Before, After, Same, Concurrent, Crossed}
 use Rattle.rules.specs.Setups.{permits}
 use Rattle.rules.specs.Numbers.{BadSetup, BadStamp, OutOfReach, given}
-use Rattle.rules.specs.Model.{
-  Row,
-  Value,
-  nothing,
-  stamp,
-  sent,
-  slot,
-  says,
-  relates,
-  shows,
-  Answer,
-  refusal,
-  accepted,
-  zeros,
-  isOut,
-  gapIn,
-  isBefore,
-  relation,
-}
-
-pub record Label : Type 0 where
-  pub owner : ℕ
-  pub row : Row
+use Rattle.rules.specs.Model.{Row, Label, Value, says, relates, Answer, refusal, accepted, zeros, isOut, gapIn, isBefore, relation}
 
 -- r is (phase in f minus phase in e) modulo P: d is r if r <= n-1, else r-P if P-r <= m-1
 abbrev pub gapOff : Setup → ℕ → Row → Row → Option Gap
@@ -107,14 +85,12 @@ newer Before = Second
 newer Concurrent = Neither
 newer Crossed = Neither
 
+abbrev pub newerIn : Option Relation → Which
+newerIn none = Neither
+newerIn (some r) = newer r
+
 abbrev pub newestBy : Value → Which
-newestBy nothing = Neither
-newestBy (stamp j r) = Neither
-newestBy (sent p j r) = Neither
-newestBy (slot s) = Neither
-newestBy (says t) = Neither
-newestBy (relates r) = newer r
-newestBy (shows r) = Neither
+newestBy v = newerIn (v .relation)
 
 abbrev pub newestOff : Setup → Option Label → Option Label → Which
 newestOff X e f = newestBy (compareOff X e f .value)

@@ -3,8 +3,13 @@
 --   Row              a pair for each desk
 --   Seat, Held       a desk's seat; what a used mail place or shelf slot holds
 --   Tables           the seats, the mail places and the shelf slots
---   Act              a call on a book that is already there
---   Value            what goes with the number 0
+--   Label            a stamp: its owner and its row
+--   Question         a call that asks about the stamps on the shelf; it changes nothing
+--   Act              a call on a book that is already there; before, compare, show, write, those that ask
+--   slotAsked q      the slot whose stamp a question hands out, none where it hands out none; slotOf c, the same of an act
+--   Value            what goes with the number 0, part by part
+--   nothing          no part; the values of the calls: a stamp; sent, a stamp with its place; a slot; says, yes or no; relates, a
+--                    relation; shows, a row
 --   Answer           a number of the answer table, and the value that goes with it
 --   refusal, accepted   the answer with a number and no value; with 0 and a value
 --   Result           what an act answers, and the tables that it leaves
@@ -29,6 +34,7 @@
 --   event            an event at j that leaves row r there, with the mail as given
 --   filing, telling  an act that changes the mail or the shelf alone; one that changes nothing
 --   settle n b r     the result r where the number n is 0; else the refusal n, and the tables b as they were
+--   askReasons Z X b q  when which number is given to the question q, in ascending order; askTells, what an accepted one is told
 --   reasons Z X b c  when which number is given to the act c, in ascending order
 --   why Z X b c      the smallest number that is due, 0 where the act is accepted
 --   done Z X b c     what an accepted act answers and leaves
@@ -80,20 +86,78 @@ pub record Tables : Type 0 where
   pub mail : ℕ → Option Held
   pub shelf : ℕ → Option Held
 
--- desks, places and slots by their numbers; write also has the bytes of room that it is lent
-pub data Act : Type 0 where
-  local reset keep drop discard show : ℕ → Act
-  send receive before compare write : ℕ → ℕ → Act
+pub record Label : Type 0 where
+  pub owner : ℕ
+  pub row : Row
 
--- a stamp is its owner and row; sent has the place in front
-pub data Value : Type 0 where
-  nothing : Value
-  stamp : ℕ → Row → Value
-  sent : ℕ → ℕ → Row → Value
-  slot : ℕ → Value
-  says : Bool → Value
-  relates : Relation → Value
-  shows : Row → Value
+-- slots by their numbers; write also has the bytes of room that it is lent
+pub data Question : Type 0 where
+  askBefore askCompare askWrite : ℕ → ℕ → Question
+  askShow : ℕ → Question
+
+-- desks, places and slots by their numbers
+pub data Act : Type 0 where
+  local reset keep drop discard : ℕ → Act
+  send receive : ℕ → ℕ → Act
+  ask : Question → Act
+
+abbrev pub before : ℕ → ℕ → Act
+before s t = ask (askBefore s t)
+
+abbrev pub compare : ℕ → ℕ → Act
+compare s t = ask (askCompare s t)
+
+abbrev pub show : ℕ → Act
+show s = ask (askShow s)
+
+abbrev pub write : ℕ → ℕ → Act
+write s room = ask (askWrite s room)
+
+abbrev pub slotAsked : Question → Option ℕ
+slotAsked (askBefore s t) = none
+slotAsked (askCompare s t) = none
+slotAsked (askShow s) = some s
+slotAsked (askWrite s room) = some s
+
+abbrev pub slotOf : Act → Option ℕ
+slotOf (local j) = none
+slotOf (send j k) = none
+slotOf (receive j p) = none
+slotOf (reset j) = none
+slotOf (keep j) = none
+slotOf (drop s) = none
+slotOf (discard p) = none
+slotOf (ask q) = slotAsked q
+
+-- the parts that a call gives; each of them is none where it gives none
+pub record Value : Type 0 where
+  pub place : Option ℕ
+  pub stamp : Option Label
+  pub slot : Option ℕ
+  pub verdict : Option Bool
+  pub relation : Option Relation
+  pub row : Option Row
+
+abbrev pub nothing : Value
+nothing = record { place = none; stamp = none; slot = none; verdict = none; relation = none; row = none }
+
+abbrev pub stamp : ℕ → Row → Value
+stamp j r = record { place = none; stamp = some record { owner = j; row = r }; slot = none; verdict = none; relation = none; row = none }
+
+abbrev pub sent : ℕ → ℕ → Row → Value
+sent p j r = record { place = some p; stamp = some record { owner = j; row = r }; slot = none; verdict = none; relation = none; row = none }
+
+abbrev pub slot : ℕ → Value
+slot s = record { place = none; stamp = none; slot = some s; verdict = none; relation = none; row = none }
+
+abbrev pub says : Bool → Value
+says t = record { place = none; stamp = none; slot = none; verdict = some t; relation = none; row = none }
+
+abbrev pub relates : Relation → Value
+relates w = record { place = none; stamp = none; slot = none; verdict = none; relation = some w; row = none }
+
+abbrev pub shows : Row → Value
+shows r = record { place = none; stamp = none; slot = none; verdict = none; relation = none; row = some r }
 
 pub record Answer : Type 0 where
   pub number : ℕ
@@ -247,6 +311,18 @@ module _ (Z : Phases) (X : Setup) where
   abbrev pub gapFrom : Tables → ℕ → ℕ → Option Gap
   gapFrom b s t = gapHeld b (b .shelf s) (b .shelf t)
 
+  unfoldable pub askReasons : Tables → Question → List Reason
+  askReasons b (askBefore s t) =
+      given NoPlace (noSlot b s || noSlot b t)
+      ∷ given OutOfReach (isOut (gapFrom b s t))
+      ∷ []
+  askReasons b (askCompare s t) =
+      given NoPlace (noSlot b s || noSlot b t)
+      ∷ given OutOfReach (isOut (gapFrom b s t) || isOut (gapFrom b t s))
+      ∷ []
+  askReasons b (askShow s) = given NoPlace (noSlot b s) ∷ []
+  askReasons b (askWrite s room) = given NoPlace (noSlot b s) ∷ given NoRoom (ltb room 20) ∷ []
+
   unfoldable pub reasons : Tables → Act → List Reason
   reasons b (local j) = given NoDesk (noDesk X j) ∷ given PhaseFull (atLimit X b j) ∷ []
   reasons b (send j k) =
@@ -274,19 +350,20 @@ module _ (Z : Phases) (X : Setup) where
       ∷ []
   reasons b (drop s) = given NoPlace (noSlot b s) ∷ []
   reasons b (discard p) = given NoPlace (noMail b p) ∷ []
-  reasons b (before s t) =
-      given NoPlace (noSlot b s || noSlot b t)
-      ∷ given OutOfReach (isOut (gapFrom b s t))
-      ∷ []
-  reasons b (compare s t) =
-      given NoPlace (noSlot b s || noSlot b t)
-      ∷ given OutOfReach (isOut (gapFrom b s t) || isOut (gapFrom b t s))
-      ∷ []
-  reasons b (show s) = given NoPlace (noSlot b s) ∷ []
-  reasons b (write s room) = given NoPlace (noSlot b s) ∷ given NoRoom (ltb room 20) ∷ []
+  reasons b (ask q) = askReasons b q
 
   abbrev pub why : Tables → Act → ℕ
   why b c = first (reasons b c)
+
+  unfoldable pub askTells : Tables → Question → Value
+  askTells b (askBefore s t) =
+      says (isBefore (gapIn (gapFrom b s t))
+      (byIn (b .shelf s)) (byIn (b .shelf t)) (rowIn (b .shelf s)) (rowIn (b .shelf t)))
+  askTells b (askCompare s t) =
+      relates (relation (gapIn (gapFrom b s t)) (gapIn (gapFrom b t s))
+      (byIn (b .shelf s)) (byIn (b .shelf t)) (rowIn (b .shelf s)) (rowIn (b .shelf t)))
+  askTells b (askShow s) = shows (rowIn (b .shelf s))
+  askTells b (askWrite s room) = stamp (byIn (b .shelf s)) (rowIn (b .shelf s))
 
   unfoldable pub done : Tables → Act → Result
   done b (local j) = event b j (grown b j) (b .mail) (stamp j (grown b j))
@@ -302,16 +379,7 @@ module _ (Z : Phases) (X : Setup) where
       (slot (freeSlot b))
   done b (drop s) = filing b (b .mail) (put (b .shelf) s none) nothing
   done b (discard p) = filing b (put (b .mail) p none) (b .shelf) nothing
-  done b (before s t) =
-      telling b
-      (says (isBefore (gapIn (gapFrom b s t))
-      (byIn (b .shelf s)) (byIn (b .shelf t)) (rowIn (b .shelf s)) (rowIn (b .shelf t))))
-  done b (compare s t) =
-      telling b
-      (relates (relation (gapIn (gapFrom b s t)) (gapIn (gapFrom b t s))
-      (byIn (b .shelf s)) (byIn (b .shelf t)) (rowIn (b .shelf s)) (rowIn (b .shelf t))))
-  done b (show s) = telling b (shows (rowIn (b .shelf s)))
-  done b (write s room) = telling b (stamp (byIn (b .shelf s)) (rowIn (b .shelf s)))
+  done b (ask q) = telling b (askTells b q)
 
   unfoldable pub step : Tables → Act → Result
   step b c = settle (why b c) b (done b c)
