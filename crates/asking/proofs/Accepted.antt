@@ -42,7 +42,7 @@ use Rattle.rules.specs.Model.{
 }
 use Rattle.rules.specs.Calls.{on, ringOf}
 use Rattle.rules.specs.Replies.{rowBytes, rowOf}
-use Rattle.book.specs.Layout.{spot, setupOf, rowAt}
+use Rattle.book.specs.Layout.{rowSpot, shelfFrom, spot, setupOf, rowAt}
 use Rattle.book.specs.Sound.{sound}
 use Rattle.book.specs.Codec.{readRow}
 use Rattle.book.specs.Stamps.{writeStamp}
@@ -215,23 +215,23 @@ module _ (s : List ℕ) (i : ℕ) where
       ltb-false room 20 (clear (ltb room 20) 14 0 (clear (noSlot (tablesOf s) i) 4 _ (ready s (write i room) e .1) .1) .0)
 
   -- the part of the book that show hands back
-  pub show-part : numberOf s (show i) ≡ 0 → take 16 (drop (spot (40 + i) 4) s) ≡ partOf s i
+  pub show-part : numberOf s (show i) ≡ 0 → take 16 (drop (spot (shelfFrom + i) rowSpot) s) ≡ partOf s i
   unfolding done askTells
   show-part e =
       let o = show-one e in
       let l = slot-place s i (o .used) in
-      part-tab 16 (spot (40 + i) 4) s (omega (arith, l, sound-size s (o .whole))) ∙ row-there s (40 + i)
-      ∙ row-read s (40 + i) ∙ ap rowBytes (sym (slot-row s i (o .used)))
+      part-tab 16 (spot (shelfFrom + i) rowSpot) s (omega (arith, l, sound-size s (o .whole))) ∙ row-there s (shelfFrom + i)
+      ∙ row-read s (shelfFrom + i) ∙ ap rowBytes (sym (slot-row s i (o .used)))
       ∙ ap (λ (a : Answer). partIn (a .value)) (accepted-answer s (show i) e)
 
   -- the record that write fills in
   pub write-record : (room : ℕ) → numberOf s (write i room) ≡ 0 → (D o : ℕ) (row : List ℕ) → D ≡ byte s 2 → o ≡ byIn (tablesOf s .shelf i)
-      → row ≡ rowBytes (rowAt s (40 + i))
+      → row ≡ rowBytes (rowAt s (shelfFrom + i))
       → writeStamp D (record { owner = o; row = rowOf row }) ≡ recordFor s i room
   unfolding done askTells
   write-record room e D o row d p q =
       let r : rowOf row ≡ rowIn (tablesOf s .shelf i)
-      = ap rowOf (q ∙ row-read s (40 + i)) ∙ row-of-bytes (readRow (rowAt s (40 + i))) (λ k l. rw (le-ltb k 8 l))
+      = ap rowOf (q ∙ row-read s (shelfFrom + i)) ∙ row-of-bytes (readRow (rowAt s (shelfFrom + i))) (λ k l. rw (le-ltb k 8 l))
       ∙ sym (slot-row s i (write-one room e .used)) in
       (λ x. writeStamp (d x) (record { owner = p x; row = r x }))
       ∙ ap (λ (a : Answer). recordIn (byte s 2) (a .value)) (accepted-answer s (write i room) e)

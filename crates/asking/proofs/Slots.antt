@@ -14,7 +14,7 @@ use Rattle.rules.specs.declared.Setup.{Setup}
 use Rattle.rules.specs.Model.{byIn, rowIn, noSlot, near, isOut, gap, gapHeld, gapFrom}
 use Rattle.rules.specs.Calls.{ringOf}
 use Rattle.rules.proofs.Setups.{permitted}
-use Rattle.book.specs.Layout.{spot, setupOf, rowAt}
+use Rattle.book.specs.Layout.{tagASpot, shelfFrom, rowSpot, clockSpot, spot, setupOf, rowAt}
 use Rattle.book.specs.Sound.{sound}
 use Rattle.book.specs.Codec.{readRow}
 use Rattle.book.specs.Numbers.{tablesOf}
@@ -28,23 +28,23 @@ use Rattle.asking.specs.Slots.{WayBetween}
 
 -- a slot that is used
 module _ (s : List ℕ) (i : ℕ) (n : noSlot (tablesOf s) i ≡ false) where
-  there : usedAt s 40 i ≡ true
-  there = not-off (usedAt s 40 i) n
+  there : usedAt s shelfFrom i ≡ true
+  there = not-off (usedAt s shelfFrom i) n
 
   pub slot-place : i < 32
-  slot-place = used-below s 40 i there
+  slot-place = used-below s shelfFrom i there
 
-  pub slot-used : byte s (spot (40 + i) 2) ≡ 0 → ⊥
-  slot-used = eqb-false (byte s (spot (40 + i) 2)) 0 (not-true _ (used-tag s 40 i slot-place ∙ there))
+  pub slot-used : byte s (spot (shelfFrom + i) tagASpot) ≡ 0 → ⊥
+  slot-used = eqb-false (byte s (spot (shelfFrom + i) tagASpot)) 0 (not-true _ (used-tag s shelfFrom i slot-place ∙ there))
 
   slot-held : tablesOf s .shelf i
-      ≡ some (heldIn s (40 + i))
-  slot-held = rw (lt-ltb i 32 slot-place, ne-eqb (byte s (spot (40 + i) 2)) 0 slot-used)
+      ≡ some (heldIn s (shelfFrom + i))
+  slot-held = rw (lt-ltb i 32 slot-place, ne-eqb (byte s (spot (shelfFrom + i) tagASpot)) 0 slot-used)
 
-  pub slot-by : byIn (tablesOf s .shelf i) ≡ byte s (spot (40 + i) 2) - 1
+  pub slot-by : byIn (tablesOf s .shelf i) ≡ byte s (spot (shelfFrom + i) tagASpot) - 1
   slot-by = ap byIn slot-held
 
-  pub slot-row : rowIn (tablesOf s .shelf i) ≡ readRow (rowAt s (40 + i))
+  pub slot-row : rowIn (tablesOf s .shelf i) ≡ readRow (rowAt s (shelfFrom + i))
   slot-row = ap rowIn slot-held
 
   -- in a sound book
@@ -60,23 +60,24 @@ module _ (s : List ℕ) (h : sound s ≡ true) (i k : ℕ) (n : noSlot (tablesOf
     desk = omega (arith, same, slot-eight s i n h)
 
     gap-lags : gapFrom (ringOf (setupOf s)) (setupOf s) (tablesOf s) i k
-        ≡ near (setupOf s) (record { up = lagIn s j (40 + i); down = lagIn s j (40 + k) })
+        ≡ near (setupOf s) (record { up = lagIn s j (shelfFrom + i); down = lagIn s j (shelfFrom + k) })
     gap-lags =
-        let by : byte s (spot (40 + i) 2) - 1 ≡ j = sym (same ∙ slot-by s i n) in
+        let by : byte s (spot (shelfFrom + i) tagASpot) - 1 ≡ j = sym (same ∙ slot-by s i n) in
         (λ t. gapHeld (ringOf (setupOf s)) (setupOf s) (tablesOf s) (slot-held s i n t) (slot-held s k m t))
-        ∙ ap (λ (d : ℕ). gap (ringOf (setupOf s)) (setupOf s) (tablesOf s) d (readRow (rowAt s (40 + i))) (readRow (rowAt s (40 + k)))) by
+        ∙ ap (λ (d : ℕ). gap (ringOf (setupOf s)) (setupOf s) (tablesOf s) d (readRow (rowAt s (shelfFrom + i)))
+        (readRow (rowAt s (shelfFrom + k)))) by
         ∙ (λ t.
         near (setupOf s)
-        (lagGap (ringOf (setupOf s)) (own-at s j desk t .phase) (read-at (rowAt s (40 + i)) j desk t)
-        (read-at (rowAt s (40 + k)) j desk t)))
+        (lagGap (ringOf (setupOf s)) (own-at s j desk t .phase) (read-at (rowAt s (shelfFrom + i)) j desk t)
+        (read-at (rowAt s (shelfFrom + k)) j desk t)))
 
     clock-at : (p : ℕ) → noSlot (tablesOf s) p ≡ false
-        → byte s (spot (40 + p) (5 + 2 * j)) ≡ rowIn (tablesOf s .shelf p) (byIn (tablesOf s .shelf i)) .clock
+        → byte s (spot (shelfFrom + p) (rowSpot + clockSpot j)) ≡ rowIn (tablesOf s .shelf p) (byIn (tablesOf s .shelf i)) .clock
     clock-at p u =
-        sym (ap (λ (q : Pair). q .clock) ((λ t. slot-row s p u t (sym same t)) ∙ read-at (rowAt s (40 + p)) j desk))
+        sym (ap (λ (q : Pair). q .clock) ((λ t. slot-row s p u t (sym same t)) ∙ read-at (rowAt s (shelfFrom + p)) j desk))
 
-    pub way-lags : (up down from to : ℕ) → up ≡ lagIn s j (40 + i) → down ≡ lagIn s j (40 + k)
-        → from ≡ byte s (spot (40 + i) (5 + 2 * j)) → to ≡ byte s (spot (40 + k) (5 + 2 * j))
+    pub way-lags : (up down from to : ℕ) → up ≡ lagIn s j (shelfFrom + i) → down ≡ lagIn s j (shelfFrom + k)
+        → from ≡ byte s (spot (shelfFrom + i) (rowSpot + clockSpot j)) → to ≡ byte s (spot (shelfFrom + k) (rowSpot + clockSpot j))
         → WayBetween s i k (record { up = up; down = down; from = from; to = to })
     way-lags up down from to u d f t =
         record {

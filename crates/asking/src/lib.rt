@@ -10,6 +10,7 @@ ghost use Rattle.rules.specs.Calls.{on};
 ghost use Rattle.book.specs.Sound.{sound};
 ghost use Rattle.book.specs.Answers.{answerTo, partOf};
 ghost use Rattle.book.specs.Numbers.{tablesOf, numberOf};
+ghost use Rattle.book.specs.Layout.{bookSize};
 ghost use Rattle.asking.specs.Slots.{WayBetween, slotsNumber, recordFor};
 use comparing::Way;
 use rules::Relation;
@@ -17,22 +18,22 @@ use rules::Stamp;
 
 // The owner of the stamp in a used slot.
 fn owner_of(book: &[u8], slot: usize) -> u8
-    requires { ⌜ length (now book) ≡ 1456 ⌝ }
+    requires { ⌜ length (now book) ≡ bookSize ⌝ }
     requires { ⌜ noSlot (tablesOf (now book)) slot ≡ false ⌝ }
     ensures { λ r. ⌜ r ≡ byIn (tablesOf (now (book .entry)) .shelf slot) ⌝ }
 {
-    parts::tag_a(book, rows::SHELF + slot) - 1
+    parts::tag_a(book, parts::SHELF + slot) - 1
 }
 
 // The way from the stamp in one used slot to that in another: d is lag of e's entry minus lag of f's entry.
 fn way_of(book: &[u8], first: usize, second: usize) -> Way
-    requires { ⌜ (length (now book) ≡ 1456) × (sound (now book) ≡ true) ⌝ }
+    requires { ⌜ (length (now book) ≡ bookSize) × (sound (now book) ≡ true) ⌝ }
     requires { ⌜ (noSlot (tablesOf (now book)) first ≡ false) × (noSlot (tablesOf (now book)) second ≡ false) ⌝ }
     ensures { λ w. ⌜ WayBetween (now (book .entry)) first second w ⌝ }
 {
     let j = tools::wide(owner_of(book, first));
-    let e = rows::SHELF + first;
-    let f = rows::SHELF + second;
+    let e = parts::SHELF + first;
+    let f = parts::SHELF + second;
     let p = parts::phases_of(book);
     let own = parts::phase_at(book, j, j);
     let old = parts::phase_at(book, e, j);
@@ -52,8 +53,8 @@ fn slots_number(book: &[u8], first: usize, second: usize) -> u8
     if !soundness::sound(book) {
         return rules::BAD_BOOK;
     }
-    if !refusals::is_used(book, rows::SHELF, first)
-        | !refusals::is_used(book, rows::SHELF, second)
+    if !refusals::is_used(book, parts::SHELF, first)
+        | !refusals::is_used(book, parts::SHELF, second)
     {
         return rules::NO_PLACE;
     }
@@ -92,7 +93,7 @@ pub fn write_number(book: &[u8], slot: usize, room: usize) -> u8
     if n != rules::DONE {
         return n;
     }
-    if room < 20 {
+    if room < parts::RECORD_BYTES {
         return rules::NO_ROOM;
     }
     rules::DONE
@@ -128,8 +129,8 @@ pub fn row_part(book: &[u8], slot: usize) -> &[u8]
     requires { ⌜ numberOf (now book) (Model.show slot) ≡ 0 ⌝ }
     ensures { λ r. ⌜ now r ≡ partOf (now (book .entry)) slot ⌝ }
 {
-    let a = 16 + 20 * (rows::SHELF + slot) + 4;
-    let e = a + 16;
+    let a = parts::spot(parts::SHELF + slot, parts::ROW);
+    let e = a + parts::ROW_BYTES;
     &book[a..e]
 }
 
@@ -138,7 +139,7 @@ pub fn record_at(book: &[u8], slot: usize, room: usize) -> [u8; 20]
     requires { ⌜ numberOf (now book) (Model.write slot room) ≡ 0 ⌝ }
     ensures { λ r. ⌜ r ≡ recordFor (now (book .entry)) slot room ⌝ }
 {
-    let row = rows::row_array(book, rows::SHELF + slot);
+    let row = rows::row_array(book, parts::SHELF + slot);
     let stamp = Stamp {
         owner: owner_of(book, slot),
         row: row,

@@ -13,18 +13,19 @@ use Rattle.tools.proofs.Lists.{length-tab, tab-at}
 use Rattle.rules.specs.declared.Setup.{Setup}
 use Rattle.rules.specs.Replies.{rowByte}
 use Rattle.rules.proofs.RowBytes.{row-phase, row-clock, row-alike}
+use Rattle.book.specs.Layout.{tagASpot, tagBSpot, bookSize, records, rowSpot, phaseSpot, clockSpot}
 use Rattle.book.specs.Layout.{Record, Fields, spot, headByte, mark0, mark1, markedByte, recordByte, byteOf, layout, setupOf, rowAt}
 use Rattle.book.specs.Layout.{fields, Holds}
 
 -- the row that stands in the bytes
-pub row-at : (b : List ℕ) (k c : ℕ) → rowByte (rowAt b k) c ≡ byte b (spot k (4 + c))
+pub row-at : (b : List ℕ) (k c : ℕ) → rowByte (rowAt b k) c ≡ byte b (spot k (rowSpot + c))
 unfolding rowByte
 row-at b k c =
     ⊎-elim (λ (e : c % 2 ≡ 0).
-    let j : spot k (4 + 2 * (c / 2)) ≡ spot k (4 + c) = omega arith in
+    let j : spot k (rowSpot + phaseSpot (c / 2)) ≡ spot k (rowSpot + c) = omega arith in
     rw (eq-eqb _ _ e) (ap (byte b) j))
     (λ (e : c % 2 ≡ 0 → ⊥).
-    let j : spot k (5 + 2 * (c / 2)) ≡ spot k (4 + c) = omega arith in
+    let j : spot k (rowSpot + clockSpot (c / 2)) ≡ spot k (rowSpot + c) = omega arith in
     rw (ne-eqb _ _ e) (ap (byte b) j)) (eq-or-ne (c % 2) 0)
 
 pub marked-row : (x y : ℕ) (r : Record) (c : ℕ) → markedByte x y r (4 + c) ≡ rowByte (r .row) c
@@ -61,7 +62,7 @@ record-bytes k = marked-bytes (mark0 k) (mark1 k)
 
 -- the bytes that hold fields are those of the fields
 module _ (f : Fields) (b : List ℕ) (h : Holds f b) where
-  byte-is : (i : ℕ) → i < 1456 → byteOf f i ≡ byte b i
+  byte-is : (i : ℕ) → i < bookSize → byteOf f i ≡ byte b i
   unfolding byteOf
   byte-is i l =
       ⊎-elim (λ (m : i < 16). rw (lt-ltb _ _ m) (h .head i m))
@@ -72,22 +73,22 @@ module _ (f : Fields) (b : List ℕ) (h : Holds f b) where
   pub layout-is : layout f ≡ b
   unfolding layout
   layout-is =
-      ext-getD 0 (tab 0 1456 (byteOf f)) b (length-tab 0 1456 (byteOf f) ∙ sym (h .size))
+      ext-getD 0 (tab 0 bookSize (byteOf f)) b (length-tab 0 bookSize (byteOf f) ∙ sym (h .size))
       (λ i l.
-      let m : i < 1456 = rw length-tab at l in
-      tab-at 1456 (byteOf f) i m ∙ byte-is i m)
+      let m : i < bookSize = rw length-tab at l in
+      tab-at bookSize (byteOf f) i m ∙ byte-is i m)
 
 pub layout-holds : (f : Fields) → Holds f (layout f)
 unfolding layout byteOf
 layout-holds f =
     record {
-      size = length-tab 0 1456 (byteOf f);
-      head = λ i l. sym (tab-at 1456 (byteOf f) i (omega arith) ∙ rw (lt-ltb i 16 l));
+      size = length-tab 0 bookSize (byteOf f);
+      head = λ i l. sym (tab-at bookSize (byteOf f) i (omega arith) ∙ rw (lt-ltb i 16 l));
       there =
           λ k c lk lc.
           let d : (spot k c - 16) / 20 ≡ k = omega arith in
           let m : (spot k c - 16) % 20 ≡ c = omega arith in
-          sym (tab-at 1456 (byteOf f) (spot k c) (omega arith) ∙ rw (le-ltb (spot k c) 16 (omega arith), d, m));
+          sym (tab-at bookSize (byteOf f) (spot k c) (omega arith) ∙ rw (le-ltb (spot k c) 16 (omega arith), d, m));
     }
 
 -- what the bytes that hold fields tell of them
@@ -105,22 +106,21 @@ module _ (f : Fields) (b : List ℕ) (h : Holds f b) where
         ahead = sym (h .head 8 (omega arith)) i;
       }
 
-  pub tagA-is : (k : ℕ) → k < 72 → byte b (spot k 2) ≡ f .at k .tagA
+  pub tagA-is : (k : ℕ) → k < records → byte b (spot k tagASpot) ≡ f .at k .tagA
   unfolding markedByte
   tagA-is k l = sym (h .there k 2 l (omega arith))
 
-  pub tagB-is : (k : ℕ) → k < 72 → byte b (spot k 3) ≡ f .at k .tagB
+  pub tagB-is : (k : ℕ) → k < records → byte b (spot k tagBSpot) ≡ f .at k .tagB
   unfolding markedByte
   tagB-is k l = sym (h .there k 3 l (omega arith))
 
-  pub row-byte-is : (k c : ℕ) → k < 72 → c < 16 → byte b (spot k (4 + c)) ≡ rowByte (f .at k .row) c
+  pub row-byte-is : (k c : ℕ) → k < records → c < 16 → byte b (spot k (rowSpot + c)) ≡ rowByte (f .at k .row) c
   row-byte-is k c lk lc = sym (sym (record-row k (f .at k) c) ∙ h .there k (4 + c) lk (omega arith))
 
-  pub pair-is : (k j : ℕ) → k < 72 → j < 8 → rowAt b k j ≡ f .at k .row j
+  pub pair-is : (k j : ℕ) → k < records → j < 8 → rowAt b k j ≡ f .at k .row j
   pair-is k j lk lj =
-      let s : spot k (5 + 2 * j) ≡ spot k (4 + (1 + 2 * j)) = omega arith in
-      let p = row-byte-is k (2 * j) lk (omega arith) ∙ row-phase (f .at k .row) j in
-      let q = ap (byte b) s ∙ row-byte-is k (1 + 2 * j) lk (omega arith) ∙ row-clock (f .at k .row) j in
+      let p = row-byte-is k (phaseSpot j) lk (omega arith) ∙ row-phase (f .at k .row) j in
+      let q = row-byte-is k (clockSpot j) lk (omega arith) ∙ row-clock (f .at k .row) j in
       λ i. record { phase = p i; clock = q i }
 
 -- records that agree in their tags and for eight desks
@@ -133,7 +133,7 @@ alike-bytes k r s a =
     record-bytes k r (λ c v. v ≡ recordByte k s c) refl refl (a .0) (a .1)
     (λ c l. row-alike (r .row) (s .row) (a .2) c l ∙ sym (record-row k s c))
 
-pub holds-alike : (f g : Fields) (b : List ℕ) → f .setup ≡ g .setup → ((k : ℕ) → k < 72 → Alike (f .at k) (g .at k))
+pub holds-alike : (f g : Fields) (b : List ℕ) → f .setup ≡ g .setup → ((k : ℕ) → k < records → Alike (f .at k) (g .at k))
     → Holds f b → Holds g b
 holds-alike f g b e a h =
     record {
@@ -142,5 +142,5 @@ holds-alike f g b e a h =
       there = λ k c lk lc. sym (alike-bytes k (f .at k) (g .at k) (a k lk) c lc) ∙ h .there k c lk lc;
     }
 
-pub fields-alike : (f : Fields) (b : List ℕ) → Holds f b → (k : ℕ) → k < 72 → Alike ((fields b) .at k) (f .at k)
+pub fields-alike : (f : Fields) (b : List ℕ) → Holds f b → (k : ℕ) → k < records → Alike ((fields b) .at k) (f .at k)
 fields-alike f b h k l = (tagA-is f b h k l, tagB-is f b h k l, λ j lj. pair-is f b h k j l lj)

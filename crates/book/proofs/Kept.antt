@@ -20,6 +20,7 @@ use Rattle.rules.specs.Setups.{permits}
 use Rattle.rules.specs.Model.{Row, Seat, Held, Tables, rowIn, zeros}
 use Rattle.rules.specs.Model.{phases}
 use Rattle.book.specs.Fits.{PairFits, RowFits, MailFits, SlotFits, Fits}
+use Rattle.book.specs.Layout.{tagASpot, tagBSpot, bookSize, records, shelfFrom, mailFrom}
 use Rattle.book.specs.Layout.{Record, Fields, fields, setupOf, rowAt, spot, mark0, mark1, headByte, markedByte, Holds}
 use Rattle.book.specs.Sound.{pairOk, columnOk, rowOk, columnZero, rowZero, seatRest, seatNear, seatOk, mailOk, slotOk, recordOk}
 use Rattle.book.specs.Sound.{spareZero, headOk, recordSound, sound}
@@ -63,7 +64,7 @@ module _ (X : Setup) (p : permits X ≡ true) (t : Tables) (w : Fits X t) (b : L
       ap (λ (q : Pair). q .phase) (pair-is F b h j j (omega arith) l)
       ∙ ap (λ (r : Record). r .row j .phase) (record-seat t j l)
 
-  row-ok : (B C k : ℕ) → B ≡ C → k < 72 → (r : Row) → recordOf t k .row ≡ r → RowFits X (phases t) C r → rowOk (fields b) B k ≡ true
+  row-ok : (B C k : ℕ) → B ≡ C → k < records → (r : Row) → recordOf t k .row ≡ r → RowFits X (phases t) C r → rowOk (fields b) B k ≡ true
   unfolding rowOk columnOk
   row-ok B C k same lk r e f =
       all-in (columnOk (fields b) B k) 8
@@ -71,7 +72,7 @@ module _ (X : Setup) (p : permits X ≡ true) (t : Tables) (w : Fits X t) (b : L
       rw (columnOk, setup-told, own-told j l, pair-is F b h k j lk l ∙ ap (λ (ρ : Row). ρ j) e, same)
       (pair-ok X C (phases t j) j (r j) (f j)))
 
-  zero-ok : (k : ℕ) → k < 72 → recordOf t k .row ≡ zeros → rowZero (fields b) k ≡ true
+  zero-ok : (k : ℕ) → k < records → recordOf t k .row ≡ zeros → rowZero (fields b) k ≡ true
   unfolding rowZero columnZero allOf
   zero-ok k lk e =
       all-in (columnZero (fields b) k) 8
@@ -84,10 +85,10 @@ module _ (X : Setup) (p : permits X ≡ true) (t : Tables) (w : Fits X t) (b : L
   unfolding seatOk seatRest seatNear allOf
   seat-ok j l = rw (seatOk, tag, filler, rest, near)
     where
-      has : byte b (spot j 2) ≡ pick (t .seat j .started) 1 0
+      has : byte b (spot j tagASpot) ≡ pick (t .seat j .started) 1 0
       has = tagA-is F b h j (omega arith) ∙ ap (λ (r : Record). r .tagA) (record-seat t j l)
 
-      filler : byte b (spot j 3) ≡ 0
+      filler : byte b (spot j tagBSpot) ≡ 0
       filler = tagB-is F b h j (omega arith) ∙ ap (λ (r : Record). r .tagB) (record-seat t j l)
 
       row : recordOf t j .row ≡ t .seat j .row
@@ -97,8 +98,8 @@ module _ (X : Setup) (p : permits X ≡ true) (t : Tables) (w : Fits X t) (b : L
       low true = omega arith
       low false = omega arith
 
-      tag : leb (byte b (spot j 2)) 1 ≡ true
-      tag = le-leb (byte b (spot j 2)) 1 (let z = low (t .seat j .started) in omega (arith, has))
+      tag : leb (byte b (spot j tagASpot)) 1 ≡ true
+      tag = le-leb (byte b (spot j tagASpot)) 1 (let z = low (t .seat j .started) in omega (arith, has))
 
       desk : t .seat j .started ≡ true → ltb j (setupOf b .desks) ≡ true
       desk e =
@@ -119,23 +120,25 @@ module _ (X : Setup) (p : permits X ≡ true) (t : Tables) (w : Fits X t) (b : L
           (row-ok (byte b 5) (X .seatLag) j seat-lag-told (omega arith) (t .seat j .row) row (w .seats j m)))
           (λ (m : X .desks ≤ j). rw (seatNear, le-ltb j (byte b 2) (omega (arith, m, desks-told)))) (lt-or-le j (X .desks))
 
-  mail-ok : (q : ℕ) → q < 32 → mailOk (fields b) (8 + q) ≡ true
+  mail-ok : (q : ℕ) → q < 32 → mailOk (fields b) (mailFrom + q) ≡ true
   unfolding mailOk allOf
   mail-ok q l = go (t .mail q) refl (w .mail q)
     where
-      kept : recordOf t (8 + q) ≡ writeMail (t .mail q)
+      kept : recordOf t (mailFrom + q) ≡ writeMail (t .mail q)
       kept = record-mail t q l
 
-      go : (o : Option Held) → t .mail q ≡ o → Each (MailFits X (phases t) q) o → mailOk (fields b) (8 + q) ≡ true
+      go : (o : Option Held) → t .mail q ≡ o → Each (MailFits X (phases t) q) o → mailOk (fields b) (mailFrom + q) ≡ true
       go none e f =
-          let a : byte b (spot (8 + q) 2) ≡ 0 = tagA-is F b h (8 + q) (omega arith) ∙ ap (λ (r : Record). r .tagA) kept ∙ ap tagBy e in
-          let c : byte b (spot (8 + q) 3) ≡ 0 = tagB-is F b h (8 + q) (omega arith) ∙ ap (λ (r : Record). r .tagB) kept ∙ ap tagTo e in
-          rw (mailOk, a, c, zero-ok (8 + q) (omega arith) (ap (λ (r : Record). r .row) kept ∙ ap rowIn e))
+          let a : byte b (spot (mailFrom + q) tagASpot) ≡ 0 = tagA-is F b h (mailFrom + q) (omega arith)
+          ∙ ap (λ (r : Record). r .tagA) kept ∙ ap tagBy e in
+          let c : byte b (spot (mailFrom + q) tagBSpot) ≡ 0 = tagB-is F b h (mailFrom + q) (omega arith)
+          ∙ ap (λ (r : Record). r .tagB) kept ∙ ap tagTo e in
+          rw (mailOk, a, c, zero-ok (mailFrom + q) (omega arith) (ap (λ (r : Record). r .row) kept ∙ ap rowIn e))
       go (some m) e f =
-          let a : byte b (spot (8 + q) 2) ≡ m .by + 1 = tagA-is F b h (8 + q) (omega arith) ∙ ap (λ (r : Record). r .tagA) kept
-          ∙ ap tagBy e in
-          let c : byte b (spot (8 + q) 3) ≡ m .to + 1 = tagB-is F b h (8 + q) (omega arith) ∙ ap (λ (r : Record). r .tagB) kept
-          ∙ ap tagTo e in
+          let a : byte b (spot (mailFrom + q) tagASpot) ≡ m .by + 1 = tagA-is F b h (mailFrom + q) (omega arith)
+          ∙ ap (λ (r : Record). r .tagA) kept ∙ ap tagBy e in
+          let c : byte b (spot (mailFrom + q) tagBSpot) ≡ m .to + 1 = tagB-is F b h (mailFrom + q) (omega arith)
+          ∙ ap (λ (r : Record). r .tagB) kept ∙ ap tagTo e in
           let d = f .differ in
           let x = f .by in
           let y = f .to in
@@ -148,27 +151,28 @@ module _ (X : Setup) (p : permits X ≡ true) (t : Tables) (w : Fits X t) (b : L
             le-leb 1 (m .to + 1) (omega arith),
             le-leb (m .to + 1) (byte b 2) (omega (arith, y, desks-told)),
             ne-eqb (m .by + 1) (m .to + 1) (λ z. d (omega arith)),
-            row-ok (2 * byte b 5) (2 * X .seatLag) (8 + q) (ap (λ n. 2 * n) seat-lag-told) (omega arith) (m .row)
+            row-ok (2 * byte b 5) (2 * X .seatLag) (mailFrom + q) (ap (λ n. 2 * n) seat-lag-told) (omega arith) (m .row)
                 (ap (λ (r : Record). r .row) kept ∙ ap rowIn e) (f .row),
           )
 
-  slot-ok : (q : ℕ) → q < 32 → slotOk (fields b) (40 + q) ≡ true
+  slot-ok : (q : ℕ) → q < 32 → slotOk (fields b) (shelfFrom + q) ≡ true
   unfolding slotOk allOf
   slot-ok q l = go (t .shelf q) refl (w .shelf q)
     where
-      kept : recordOf t (40 + q) ≡ writeSlot (t .shelf q)
+      kept : recordOf t (shelfFrom + q) ≡ writeSlot (t .shelf q)
       kept = record-slot t q l
 
-      filler : byte b (spot (40 + q) 3) ≡ 0
-      filler = tagB-is F b h (40 + q) (omega arith) ∙ ap (λ (r : Record). r .tagB) kept
+      filler : byte b (spot (shelfFrom + q) tagBSpot) ≡ 0
+      filler = tagB-is F b h (shelfFrom + q) (omega arith) ∙ ap (λ (r : Record). r .tagB) kept
 
-      go : (o : Option Held) → t .shelf q ≡ o → Each (SlotFits X (phases t) q) o → slotOk (fields b) (40 + q) ≡ true
+      go : (o : Option Held) → t .shelf q ≡ o → Each (SlotFits X (phases t) q) o → slotOk (fields b) (shelfFrom + q) ≡ true
       go none e f =
-          let a : byte b (spot (40 + q) 2) ≡ 0 = tagA-is F b h (40 + q) (omega arith) ∙ ap (λ (r : Record). r .tagA) kept ∙ ap tagBy e in
-          rw (slotOk, a, filler, zero-ok (40 + q) (omega arith) (ap (λ (r : Record). r .row) kept ∙ ap rowIn e))
+          let a : byte b (spot (shelfFrom + q) tagASpot) ≡ 0 = tagA-is F b h (shelfFrom + q) (omega arith)
+          ∙ ap (λ (r : Record). r .tagA) kept ∙ ap tagBy e in
+          rw (slotOk, a, filler, zero-ok (shelfFrom + q) (omega arith) (ap (λ (r : Record). r .row) kept ∙ ap rowIn e))
       go (some m) e f =
-          let a : byte b (spot (40 + q) 2) ≡ m .by + 1 = tagA-is F b h (40 + q) (omega arith) ∙ ap (λ (r : Record). r .tagA) kept
-          ∙ ap tagBy e in
+          let a : byte b (spot (shelfFrom + q) tagASpot) ≡ m .by + 1 = tagA-is F b h (shelfFrom + q) (omega arith)
+          ∙ ap (λ (r : Record). r .tagA) kept ∙ ap tagBy e in
           let x = f .by in
           rw (
             slotOk,
@@ -176,18 +180,19 @@ module _ (X : Setup) (p : permits X ≡ true) (t : Tables) (w : Fits X t) (b : L
             filler,
             ne-eqb (m .by + 1) 0 (omega arith),
             le-leb (m .by + 1) (byte b 2) (omega (arith, x, desks-told)),
-            row-ok (byte b 6) (X .shelfLag) (40 + q) shelf-lag-told (omega arith) (m .row) (ap (λ (r : Record). r .row) kept ∙ ap rowIn e)
+            row-ok (byte b 6) (X .shelfLag) (shelfFrom + q) shelf-lag-told (omega arith) (m .row)
+                (ap (λ (r : Record). r .row) kept ∙ ap rowIn e)
                 (f .row),
           )
 
-  record-ok : (k : ℕ) → k < 72 → recordOk (fields b) k ≡ true
+  record-ok : (k : ℕ) → k < records → recordOk (fields b) k ≡ true
   unfolding recordOk
   record-ok =
       by-kind (λ k. recordOk (fields b) k ≡ true) (λ j l. rw (recordOk, lt-ltb j 8 l) (seat-ok j l))
-      (λ q l. rw (recordOk, le-ltb (8 + q) 8 (omega arith), lt-ltb (8 + q) 40 (omega arith)) (mail-ok q l))
-      (λ q l. rw (recordOk, le-ltb (40 + q) 8 (omega arith), le-ltb (40 + q) 40 (omega arith)) (slot-ok q l))
+      (λ q l. rw (recordOk, le-ltb (mailFrom + q) 8 (omega arith), lt-ltb (mailFrom + q) shelfFrom (omega arith)) (mail-ok q l))
+      (λ q l. rw (recordOk, le-ltb (shelfFrom + q) 8 (omega arith), le-ltb (shelfFrom + q) shelfFrom (omega arith)) (slot-ok q l))
 
-  record-sound : (k : ℕ) → k < 72 → recordSound b k ≡ true
+  record-sound : (k : ℕ) → k < records → recordSound b k ≡ true
   unfolding recordSound markedByte allOf
   record-sound k l =
       rw (
@@ -221,4 +226,5 @@ module _ (X : Setup) (p : permits X ≡ true) (t : Tables) (w : Fits X t) (b : L
 
   pub holds-sound : sound b ≡ true
   unfolding sound allOf
-  holds-sound = rw (sound, eq-eqb (length b) 1456 (h .size), head-ok, ap permits setup-told ∙ p, all-in (recordSound b) 72 record-sound)
+  holds-sound =
+      rw (sound, eq-eqb (length b) bookSize (h .size), head-ok, ap permits setup-told ∙ p, all-in (recordSound b) records record-sound)

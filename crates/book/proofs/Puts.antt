@@ -14,13 +14,14 @@ use Rattle.tools.proofs.Tables.{put-all, put-same, put-other}
 use Rattle.rules.specs.declared.Setup.{Setup}
 use Rattle.rules.specs.Model.{Seat, Held, Tables, rowIn}
 use Rattle.rules.specs.Replies.{rowBytes}
-use Rattle.book.specs.Layout.{Record, Holds, post}
+use Rattle.book.specs.Layout.{records, shelfFrom, mailFrom, Record, Holds, post}
 use Rattle.book.specs.Codec.{tagBy, tagTo, writeSeat, writeMail, writeSlot, recordOf, write}
 use Rattle.book.proofs.Posted.{post-holds}
 use Rattle.book.proofs.Codec.{record-seat, record-mail, record-slot}
 
 -- tables whose records are those of t but for one
-posted : (X : Setup) (t t′ : Tables) (b : List ℕ) → Holds (write (record { setup = X; tables = t })) b → (k : ℕ) → k < 72 → (r : Record)
+posted : (X : Setup) (t t′ : Tables) (b : List ℕ) → Holds (write (record { setup = X; tables = t })) b → (k : ℕ) → k < records
+    → (r : Record)
     → recordOf t′ k ≡ r → ((i : ℕ) → (i ≡ k → ⊥) → recordOf t′ i ≡ recordOf t i)
     → Holds (write (record { setup = X; tables = t′ })) (post b k (r .tagA) (r .tagB) (rowBytes (r .row)))
 posted X t t′ b h k l r here there =
@@ -36,37 +37,40 @@ module _ (X : Setup) (t : Tables) (b : List ℕ) (h : Holds (write (record { set
       posted X t (record { seat = put (t .seat) j s; mail = t .mail; shelf = t .shelf }) b h j (omega arith) (writeSeat s)
       (record-seat (record { seat = put (t .seat) j s; mail = t .mail; shelf = t .shelf }) j l ∙ ap writeSeat (put-same (t .seat) j s))
       (λ i ne.
-      ap (λ (x : Seat). pick (ltb i 8) (writeSeat x) (pick (ltb i 40) (writeMail (t .mail (i - 8))) (writeSlot (t .shelf (i - 40)))))
+      ap (λ (x : Seat). pick (ltb i 8) (writeSeat x)
+      (pick (ltb i shelfFrom) (writeMail (t .mail (i - mailFrom))) (writeSlot (t .shelf (i - shelfFrom)))))
       (put-other (t .seat) j s i ne))
 
   pub mail-put : (p : ℕ) → p < 32 → (o : Option Held)
       → Holds (write (record { setup = X; tables = record { seat = t .seat; mail = put (t .mail) p o; shelf = t .shelf } }))
-      (post b (8 + p) (tagBy o) (tagTo o) (rowBytes (rowIn o)))
+      (post b (mailFrom + p) (tagBy o) (tagTo o) (rowBytes (rowIn o)))
   mail-put p l o =
-      posted X t (record { seat = t .seat; mail = put (t .mail) p o; shelf = t .shelf }) b h (8 + p) (omega arith) (writeMail o)
+      posted X t (record { seat = t .seat; mail = put (t .mail) p o; shelf = t .shelf }) b h (mailFrom + p) (omega arith) (writeMail o)
       (record-mail (record { seat = t .seat; mail = put (t .mail) p o; shelf = t .shelf }) p l ∙ ap writeMail (put-same (t .mail) p o))
       (λ i ne. go i ne (ltb i 8) refl)
     where
-      go : (i : ℕ) → (i ≡ 8 + p → ⊥) → (u : Bool) → ltb i 8 ≡ u
-          → pick u (writeSeat (t .seat i)) (pick (ltb i 40) (writeMail (put (t .mail) p o (i - 8))) (writeSlot (t .shelf (i - 40))))
-          ≡ pick u (writeSeat (t .seat i)) (pick (ltb i 40) (writeMail (t .mail (i - 8))) (writeSlot (t .shelf (i - 40))))
+      go : (i : ℕ) → (i ≡ mailFrom + p → ⊥) → (u : Bool) → ltb i 8 ≡ u
+          → pick u (writeSeat (t .seat i))
+          (pick (ltb i shelfFrom) (writeMail (put (t .mail) p o (i - mailFrom))) (writeSlot (t .shelf (i - shelfFrom))))
+          ≡ pick u (writeSeat (t .seat i))
+          (pick (ltb i shelfFrom) (writeMail (t .mail (i - mailFrom))) (writeSlot (t .shelf (i - shelfFrom))))
       go i ne true e = refl
       go i ne false e =
-          ap (λ (x : Option Held). pick (ltb i 40) (writeMail x) (writeSlot (t .shelf (i - 40))))
-          (put-other (t .mail) p o (i - 8) (λ z. ne (omega (arith, z, ltb-false i 8 e))))
+          ap (λ (x : Option Held). pick (ltb i shelfFrom) (writeMail x) (writeSlot (t .shelf (i - shelfFrom))))
+          (put-other (t .mail) p o (i - mailFrom) (λ z. ne (omega (arith, z, ltb-false i 8 e))))
 
   pub slot-put : (p : ℕ) → p < 32 → (o : Option Held)
       → Holds (write (record { setup = X; tables = record { seat = t .seat; mail = t .mail; shelf = put (t .shelf) p o } }))
-      (post b (40 + p) (tagBy o) 0 (rowBytes (rowIn o)))
+      (post b (shelfFrom + p) (tagBy o) 0 (rowBytes (rowIn o)))
   slot-put p l o =
-      posted X t (record { seat = t .seat; mail = t .mail; shelf = put (t .shelf) p o }) b h (40 + p) (omega arith) (writeSlot o)
+      posted X t (record { seat = t .seat; mail = t .mail; shelf = put (t .shelf) p o }) b h (shelfFrom + p) (omega arith) (writeSlot o)
       (record-slot (record { seat = t .seat; mail = t .mail; shelf = put (t .shelf) p o }) p l ∙ ap writeSlot (put-same (t .shelf) p o))
-      (λ i ne. go i ne (ltb i 8) refl (ltb i 40) refl)
+      (λ i ne. go i ne (ltb i 8) refl (ltb i shelfFrom) refl)
     where
-      go : (i : ℕ) → (i ≡ 40 + p → ⊥) → (u : Bool) → ltb i 8 ≡ u → (v : Bool) → ltb i 40 ≡ v
-          → pick u (writeSeat (t .seat i)) (pick v (writeMail (t .mail (i - 8))) (writeSlot (put (t .shelf) p o (i - 40))))
-          ≡ pick u (writeSeat (t .seat i)) (pick v (writeMail (t .mail (i - 8))) (writeSlot (t .shelf (i - 40))))
+      go : (i : ℕ) → (i ≡ shelfFrom + p → ⊥) → (u : Bool) → ltb i 8 ≡ u → (v : Bool) → ltb i shelfFrom ≡ v
+          → pick u (writeSeat (t .seat i)) (pick v (writeMail (t .mail (i - mailFrom))) (writeSlot (put (t .shelf) p o (i - shelfFrom))))
+          ≡ pick u (writeSeat (t .seat i)) (pick v (writeMail (t .mail (i - mailFrom))) (writeSlot (t .shelf (i - shelfFrom))))
       go i ne true e v f = refl
       go i ne false e true f = refl
       go i ne false e false f =
-          ap writeSlot (put-other (t .shelf) p o (i - 40) (λ z. ne (omega (arith, z, ltb-false i 40 f))))
+          ap writeSlot (put-other (t .shelf) p o (i - shelfFrom) (λ z. ne (omega (arith, z, ltb-false i shelfFrom f))))

@@ -16,15 +16,15 @@ use Rattle.ring.specs.Phases.{Pair}
 use Rattle.rules.specs.Model.{Row}
 use Rattle.rules.specs.Replies.{rowByte, rowBytes}
 use Rattle.rules.proofs.RowBytes.{row-phase, row-clock}
-use Rattle.book.specs.Layout.{spot, rowAt}
+use Rattle.book.specs.Layout.{rowSpot, spot, rowAt}
 use Rattle.book.proofs.Bytes.{row-at}
 
 -- the row that stands in the bytes
-pub row-there : (b : List ℕ) (k : ℕ) → tab 0 16 (λ c. byte b (spot k 4 + c)) ≡ rowBytes (rowAt b k)
+pub row-there : (b : List ℕ) (k : ℕ) → tab 0 16 (λ c. byte b (spot k rowSpot + c)) ≡ rowBytes (rowAt b k)
 unfolding rowBytes
 row-there b k =
     tab-same 16 _ (rowByte (rowAt b k))
-    (λ c l. let e : spot k 4 + c ≡ spot k (4 + c) = omega arith in ap (byte b) e ∙ sym (row-at b k c))
+    (λ c l. let e : spot k rowSpot + c ≡ spot k (rowSpot + c) = omega arith in ap (byte b) e ∙ sym (row-at b k c))
 
 pub set-pair : (r : Row) (j : ℕ) → j < 8 → (q : Pair)
     → set (set (rowBytes r) (2 * j) (q .phase)) (1 + 2 * j) (q .clock) ≡ rowBytes (put r j q)

@@ -20,6 +20,7 @@ use Rattle.rules.specs.Model.{Held, zeros, idle}
 use Rattle.rules.specs.Model.{phases}
 use Rattle.book.specs.Fits.{PairFits, RowFits, MailFits, SlotFits, Fits}
 use Rattle.rules.proofs.Setups.{permitted}
+use Rattle.book.specs.Layout.{tagASpot, tagBSpot, bookSize, records, shelfFrom, mailFrom, seats}
 use Rattle.book.specs.Layout.{Fields, fields, setupOf, spot, mark0, mark1, headByte, Holds}
 use Rattle.book.specs.Sound.{pairOk, columnOk, rowOk, columnZero, rowZero, seatRest, seatNear, seatOk, mailOk, slotOk, recordOk}
 use Rattle.book.specs.Sound.{spareZero, headOk, recordSound, sound}
@@ -27,7 +28,7 @@ use Rattle.book.specs.Codec.{readRow, readSeat, readHeld, read}
 use Rattle.book.proofs.Bytes.{record-bytes, row-at}
 
 module _ (b : List ℕ) (s : sound b ≡ true) where
-  pub sound-size : length b ≡ 1456
+  pub sound-size : length b ≡ bookSize
   unfolding sound
   sound-size = eqb-true _ _ (each _ s 0)
 
@@ -39,19 +40,19 @@ module _ (b : List ℕ) (s : sound b ≡ true) where
   unfolding sound
   sound-setup = each _ s 2
 
-  sound-each : (k : ℕ) → k < 72 → recordSound b k ≡ true
+  sound-each : (k : ℕ) → k < records → recordSound b k ≡ true
   unfolding sound
-  sound-each k l = all-at (recordSound b) 72 k l (each _ s 3)
+  sound-each k l = all-at (recordSound b) records k l (each _ s 3)
 
-  pub sound-record : (k : ℕ) → k < 72 → recordOk (fields b) k ≡ true
+  pub sound-record : (k : ℕ) → k < records → recordOk (fields b) k ≡ true
   unfolding recordSound
   sound-record k l = each _ (sound-each k l) 2
 
-  sound-mark0 : (k : ℕ) → k < 72 → mark0 k ≡ byte b (spot k 0)
+  sound-mark0 : (k : ℕ) → k < records → mark0 k ≡ byte b (spot k 0)
   unfolding recordSound
   sound-mark0 k l = sym (eqb-true _ _ (each _ (sound-each k l) 0))
 
-  sound-mark1 : (k : ℕ) → k < 72 → mark1 k ≡ byte b (spot k 1)
+  sound-mark1 : (k : ℕ) → k < records → mark1 k ≡ byte b (spot k 1)
   unfolding recordSound
   sound-mark1 k l = sym (eqb-true _ _ (each _ (sound-each k l) 1))
 
@@ -223,7 +224,7 @@ module _ (f : Fields) (few : f .setup .desks ≤ 8) (k : ℕ) where
 
 -- what record k holds, if it is used
 abbrev pub heldIn : List ℕ → ℕ → Held
-heldIn b k = record { by = byte b (spot k 2) - 1; to = byte b (spot k 3) - 1; row = readRow (fields b .at k .row) }
+heldIn b k = record { by = byte b (spot k tagASpot) - 1; to = byte b (spot k tagBSpot) - 1; row = readRow (fields b .at k .row) }
 
 -- each record of a sound book
 module _ (b : List ℕ) (s : sound b ≡ true) where
@@ -234,17 +235,19 @@ module _ (b : List ℕ) (s : sound b ≡ true) where
   unfolding recordOk
   sound-seat j l = seat-sound (fields b) few-desks j (rw (recordOk, lt-ltb j 8 l) at (sound-record b s j (omega arith)))
 
-  pub sound-mail : (p : ℕ) → p < 32 → MailSound (fields b) (8 + p)
+  pub sound-mail : (p : ℕ) → p < 32 → MailSound (fields b) (mailFrom + p)
   unfolding recordOk
   sound-mail p l =
-      mail-sound (fields b) few-desks (8 + p)
-      (rw (recordOk, le-ltb (8 + p) 8 (omega arith), lt-ltb (8 + p) 40 (omega arith)) at (sound-record b s (8 + p) (omega arith)))
+      mail-sound (fields b) few-desks (mailFrom + p)
+      (rw (recordOk, le-ltb (mailFrom + p) 8 (omega arith), lt-ltb (mailFrom + p) shelfFrom (omega arith)) at
+      (sound-record b s (mailFrom + p) (omega arith)))
 
-  pub sound-slot : (p : ℕ) → p < 32 → SlotSound (fields b) (40 + p)
+  pub sound-slot : (p : ℕ) → p < 32 → SlotSound (fields b) (shelfFrom + p)
   unfolding recordOk
   sound-slot p l =
-      slot-sound (fields b) few-desks (40 + p)
-      (rw (recordOk, le-ltb (40 + p) 8 (omega arith), le-ltb (40 + p) 40 (omega arith)) at (sound-record b s (40 + p) (omega arith)))
+      slot-sound (fields b) few-desks (shelfFrom + p)
+      (rw (recordOk, le-ltb (shelfFrom + p) 8 (omega arith), le-ltb (shelfFrom + p) shelfFrom (omega arith)) at
+      (sound-record b s (shelfFrom + p) (omega arith)))
 
   -- the tables of a sound book fit
   pub sound-fits : Fits (setupOf b) (read (fields b))
@@ -261,35 +264,35 @@ module _ (b : List ℕ) (s : sound b ≡ true) where
           → (pick t (readSeat ((fields b) .at j)) idle) .row ≡ zeros
       unstarted j true e n =
           let q = sound-seat j (ltb-true j 8 e) in
-          q .rest (omega (arith, q .tag, eqb-false (byte b (spot j 2)) 1 n))
+          q .rest (omega (arith, q .tag, eqb-false (byte b (spot j tagASpot)) 1 n))
       unstarted j false e n = refl
 
       beyond : (j : ℕ) → setupOf b .desks ≤ j → (t : Bool) → ltb j 8 ≡ t → pick t (readSeat ((fields b) .at j)) idle ≡ idle
       beyond j l false e = refl
-      beyond j l true e = go (eqb (byte b (spot j 2)) 0) refl
+      beyond j l true e = go (eqb (byte b (spot j tagASpot)) 0) refl
         where
-          go : (t : Bool) → eqb (byte b (spot j 2)) 0 ≡ t → readSeat ((fields b) .at j) ≡ idle
+          go : (t : Bool) → eqb (byte b (spot j tagASpot)) 0 ≡ t → readSeat ((fields b) .at j) ≡ idle
           go true z =
               let q = sound-seat j (ltb-true j 8 e) in
-              let y : byte b (spot j 2) ≡ 0 = eqb-true _ _ z in
+              let y : byte b (spot j tagASpot) ≡ 0 = eqb-true _ _ z in
               let x = q .rest y in
               λ i. record { started = eqb (y i) 1; row = x i }
           go false z =
               let q = sound-seat j (ltb-true j 8 e) in
-              absurd (let m = q .desk (eqb-false (byte b (spot j 2)) 0 z) in omega arith)
+              absurd (let m = q .desk (eqb-false (byte b (spot j tagASpot)) 0 z) in omega arith)
 
       -- a place or slot is free, or fits where its first tag is not 0
-      held : (a p : ℕ) (Q : Held → Type 0) → (p < 32 → (byte b (spot (a + p) 2) ≡ 0 → ⊥) → Q (heldIn b (a + p)))
+      held : (a p : ℕ) (Q : Held → Type 0) → (p < 32 → (byte b (spot (a + p) tagASpot) ≡ 0 → ⊥) → Q (heldIn b (a + p)))
           → (t : Bool) → ltb p 32 ≡ t → Each Q (pick t (readHeld ((fields b) .at (a + p))) none)
       held a p Q fits false e = tt
-      held a p Q fits true e = go (eqb (byte b (spot (a + p) 2)) 0) refl
+      held a p Q fits true e = go (eqb (byte b (spot (a + p) tagASpot)) 0) refl
         where
-          go : (t : Bool) → eqb (byte b (spot (a + p) 2)) 0 ≡ t → Each Q (pick t none (some (heldIn b (a + p))))
+          go : (t : Bool) → eqb (byte b (spot (a + p) tagASpot)) 0 ≡ t → Each Q (pick t none (some (heldIn b (a + p))))
           go true z = tt
           go false z = fits (ltb-true p 32 e) (eqb-false _ _ z)
 
       mail : (p : ℕ) (t : Bool) → ltb p 32 ≡ t
-          → Each (MailFits (setupOf b) (phases (read (fields b))) p) (pick t (readHeld ((fields b) .at (8 + p))) none)
+          → Each (MailFits (setupOf b) (phases (read (fields b))) p) (pick t (readHeld ((fields b) .at (mailFrom + p))) none)
       mail p =
           held 8 p _
           (λ l n.
@@ -297,15 +300,15 @@ module _ (b : List ℕ) (s : sound b ≡ true) where
           let y = q .by in
           let v = q .some-to n in
           let u = q .to n in
-          let d : byte b (spot (8 + p) 2) ≡ byte b (spot (8 + p) 3) → ⊥ = q .differ n in
+          let d : byte b (spot (mailFrom + p) tagASpot) ≡ byte b (spot (mailFrom + p) tagBSpot) → ⊥ = q .differ n in
           record { place = l; by = omega arith; to = omega arith; differ = λ w. d (omega arith); row = q .row n })
 
       shelf : (p : ℕ) (t : Bool) → ltb p 32 ≡ t
-          → Each (SlotFits (setupOf b) (phases (read (fields b))) p) (pick t (readHeld ((fields b) .at (40 + p))) none)
+          → Each (SlotFits (setupOf b) (phases (read (fields b))) p) (pick t (readHeld ((fields b) .at (shelfFrom + p))) none)
       shelf p =
-          held 40 p _
+          held shelfFrom p _
           (λ l n.
           let q = sound-slot p l in
           let y = q .by in
-          let v : byte b (spot (40 + p) 3) ≡ 0 = q .filler in
+          let v : byte b (spot (shelfFrom + p) tagBSpot) ≡ 0 = q .filler in
           record { place = l; by = omega arith; to = omega arith; row = q .row n })

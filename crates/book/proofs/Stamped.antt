@@ -14,7 +14,7 @@ use Rattle.tools.proofs.Tables.{put-all}
 use Rattle.ring.specs.Phases.{Phases, Pair, isLater}
 use Rattle.rules.specs.Model.{Row, own, zeros, idle, rowIn, tick, merged}
 use Rattle.rules.proofs.RowBytes.{Eight}
-use Rattle.book.specs.Layout.{Record, fields}
+use Rattle.book.specs.Layout.{mailFrom, Record, fields}
 use Rattle.book.specs.Codec.{readRow, readSeat, readHeld}
 use Rattle.book.specs.Numbers.{tablesOf}
 
@@ -43,8 +43,8 @@ module _ (s : List ℕ) where
   pub mail-eight : (p : ℕ) → Eight (rowIn (tablesOf s .mail p))
   mail-eight p = go (ltb p 32)
     where
-      go : (t : Bool) → Eight (rowIn (pick t (readHeld (fields s .at (8 + p))) none))
-      go true = held-eight (fields s .at (8 + p))
+      go : (t : Bool) → Eight (rowIn (pick t (readHeld (fields s .at (mailFrom + p))) none))
+      go true = held-eight (fields s .at (mailFrom + p))
       go false = λ k l. refl
 
   -- with one desk's pair set

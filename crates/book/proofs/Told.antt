@@ -8,7 +8,7 @@ use borrow.Author.Tests.{lt-ltb}
 use Rattle.tools.specs.Lists.{byte}
 use Rattle.rules.specs.Model.{Row, own}
 use Rattle.rules.proofs.Setups.{permitted}
-use Rattle.book.specs.Layout.{rowAt, setupOf, fields}
+use Rattle.book.specs.Layout.{shelfFrom, rowAt, setupOf, fields}
 use Rattle.book.specs.Sound.{sound}
 use Rattle.book.specs.Codec.{readRow, readHeld}
 use Rattle.book.specs.Numbers.{tablesOf}
@@ -23,7 +23,7 @@ read-at r j l = rw (lt-ltb j 8 l)
 pub own-at : (s : List ℕ) (j : ℕ) → j < 8 → own (tablesOf s) j ≡ rowAt s j j
 own-at s j l = ap (λ (r : Row). r j) (seat-row s j l) ∙ read-at (rowAt s j) j l
 
-pub slot-at : (s : List ℕ) (p : ℕ) → p < 32 → tablesOf s .shelf p ≡ readHeld (fields s .at (40 + p))
+pub slot-at : (s : List ℕ) (p : ℕ) → p < 32 → tablesOf s .shelf p ≡ readHeld (fields s .at (shelfFrom + p))
 slot-at s p l = rw (lt-ltb p 32 l)
 
 -- no more than eight desks, and a clock may grow without leaving its byte

@@ -22,12 +22,13 @@ use Rattle.rules.specs.Numbers.{BadBook, number}
 use Rattle.rules.specs.Calls.{Call, start, on, Turn, ringOf, call}
 use Rattle.rules.specs.Labels.{beforeOff, compareOff}
 use Rattle.rules.specs.Replies.{rowBytes}
+use Rattle.book.specs.Layout.{bookSize}
 use Rattle.book.specs.Sound.{sound}
 use Rattle.book.specs.Codec.{decode, encode}
 use Rattle.book.specs.Stamps.{writeStamp, readStamp, filled}
 
 unfoldable pub admits : List ℕ → Call → Bool
-admits s (start X) = eqb (length s) 1456
+admits s (start X) = eqb (length s) bookSize
 admits s (on c) = sound s
 
 abbrev pub turnOn : List ℕ → Call → Turn

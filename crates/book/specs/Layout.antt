@@ -1,6 +1,19 @@
--- Where the numbers of a book stand: a header of 16 bytes, then 72 records of 20 bytes each.
+-- Where the numbers of a book stand: a header, then a record for each seat, each mail place and each shelf slot.
 -- Assumes nothing.
---   Record           the two tags and the row of a record; 0..7 are seats, 8..39 mail places, 40..71 shelf slots
+--   bookSize         how many bytes a book has
+--   headSize         the header
+--   recordSize       a record: its mark, its two tags and its row
+--   rowSize          a row
+--   records          how many records there are
+--   seats            the seats, records 0 to 7; a row has a pair for each
+--   places           the mail places; there are as many shelf slots
+--   mailFrom         the record of mail place 0
+--   shelfFrom        the record of shelf slot 0
+--   tagASpot, tagBSpot   which byte of a record its first tag is, and its second, the fourth byte of all
+--   rowSpot          the byte of a record where its row begins
+--   phaseSpot j, clockSpot j   which byte of a row is the phase of desk j, and which the clock
+--   bookMark0, bookMark1   the mark of a book
+--   Record           the two tags and the row of a record
 --   Fields           the setup and the records
 --   spot k c         where byte c of record k stands
 --   headByte X i     byte i of the header of a book with the setup X
@@ -34,32 +47,82 @@ pub record Fields : Type 0 where
   pub setup : Setup
   pub at : ℕ → Record
 
+abbrev pub headSize : ℕ
+headSize = 16
+
+abbrev pub recordSize : ℕ
+recordSize = 20
+
+abbrev pub rowSize : ℕ
+rowSize = 16
+
+abbrev pub seats : ℕ
+seats = 8
+
+abbrev pub places : ℕ
+places = 32
+
+abbrev pub mailFrom : ℕ
+mailFrom = 8
+
+abbrev pub shelfFrom : ℕ
+shelfFrom = 40
+
+abbrev pub records : ℕ
+records = 72
+
+abbrev pub bookSize : ℕ
+bookSize = 1456
+
+abbrev pub tagASpot : ℕ
+tagASpot = 2
+
+abbrev pub tagBSpot : ℕ
+tagBSpot = 3
+
+abbrev pub rowSpot : ℕ
+rowSpot = 4
+
+abbrev pub phaseSpot : ℕ → ℕ
+phaseSpot j = 2 * j
+
+abbrev pub clockSpot : ℕ → ℕ
+clockSpot j = 1 + 2 * j
+
+abbrev pub bookMark0 : ℕ
+bookMark0 = 0x42
+
+abbrev pub bookMark1 : ℕ
+bookMark1 = 0x4B
+
 abbrev pub spot : ℕ → ℕ → ℕ
-spot k c = 16 + 20 * k + c
+spot k c = headSize + recordSize * k + c
 
 unfoldable pub headByte : Setup → ℕ → ℕ
 headByte X i =
-    byte (0x42 ∷ 0x4B ∷ X .desks ∷ X .phases ∷ X .clocks ∷ X .seatLag ∷ X .shelfLag ∷ X .back ∷ X .ahead ∷ []) i
+    byte (bookMark0 ∷ bookMark1 ∷ X .desks ∷ X .phases ∷ X .clocks ∷ X .seatLag ∷ X .shelfLag ∷ X .back ∷ X .ahead ∷ []) i
 
 unfoldable pub mark0 : ℕ → ℕ
-mark0 k = pick (ltb k 8) 0x53 (pick (ltb k 40) 0x4D 0x53)
+mark0 k = pick (ltb k seats) 0x53 (pick (ltb k shelfFrom) 0x4D 0x53)
 
 unfoldable pub mark1 : ℕ → ℕ
-mark1 k = pick (ltb k 8) 0x45 (pick (ltb k 40) 0x41 0x48)
+mark1 k = pick (ltb k seats) 0x45 (pick (ltb k shelfFrom) 0x41 0x48)
 
 unfoldable pub markedByte : ℕ → ℕ → Record → ℕ → ℕ
 markedByte x y r c =
     pick (eqb c 0) x
-    (pick (eqb c 1) y (pick (eqb c 2) (r .tagA) (pick (eqb c 3) (r .tagB) (rowByte (r .row) (c - 4)))))
+    (pick (eqb c 1) y (pick (eqb c tagASpot) (r .tagA) (pick (eqb c tagBSpot) (r .tagB) (rowByte (r .row) (c - rowSpot)))))
 
 abbrev pub recordByte : ℕ → Record → ℕ → ℕ
 recordByte k r c = markedByte (mark0 k) (mark1 k) r c
 
 unfoldable pub byteOf : Fields → ℕ → ℕ
-byteOf f i = pick (ltb i 16) (headByte (f .setup) i) (recordByte ((i - 16) / 20) (f .at ((i - 16) / 20)) ((i - 16) % 20))
+byteOf f i =
+    pick (ltb i headSize) (headByte (f .setup) i)
+    (recordByte ((i - headSize) / recordSize) (f .at ((i - headSize) / recordSize)) ((i - headSize) % recordSize))
 
 unfoldable pub layout : Fields → List ℕ
-layout f = tab 0 1456 (byteOf f)
+layout f = tab 0 bookSize (byteOf f)
 
 abbrev pub setupOf : List ℕ → Setup
 setupOf b =
@@ -74,19 +137,20 @@ setupOf b =
     }
 
 abbrev pub rowAt : List ℕ → ℕ → Row
-rowAt b k j = record { phase = byte b (spot k (4 + 2 * j)); clock = byte b (spot k (5 + 2 * j)) }
+rowAt b k j =
+    record { phase = byte b (spot k (rowSpot + phaseSpot j)); clock = byte b (spot k (rowSpot + clockSpot j)) }
 
 abbrev pub fields : List ℕ → Fields
 fields b =
     record {
       setup = setupOf b;
-      at = λ k. record { tagA = byte b (spot k 2); tagB = byte b (spot k 3); row = rowAt b k };
+      at = λ k. record { tagA = byte b (spot k tagASpot); tagB = byte b (spot k tagBSpot); row = rowAt b k };
     }
 
 pub record Holds (f : Fields) (b : List ℕ) : Type 0 where
-  pub size : length b ≡ 1456
-  pub head : (i : ℕ) → i < 16 → headByte (f .setup) i ≡ byte b i
-  pub there : (k c : ℕ) → k < 72 → c < 20 → recordByte k (f .at k) c ≡ byte b (spot k c)
+  pub size : length b ≡ bookSize
+  pub head : (i : ℕ) → i < headSize → headByte (f .setup) i ≡ byte b i
+  pub there : (k c : ℕ) → k < records → c < recordSize → recordByte k (f .at k) c ≡ byte b (spot k c)
 
 unfoldable pub post : List ℕ → ℕ → ℕ → ℕ → List ℕ → List ℕ
-post b k x y row = set (set (mid (spot k 4) 16 b row) (spot k 2) x) (spot k 3) y
+post b k x y row = set (set (mid (spot k rowSpot) rowSize b row) (spot k tagASpot) x) (spot k tagBSpot) y

@@ -24,6 +24,7 @@ use Rattle.ring.specs.Phases.{Pair, lagOf}
 use Rattle.rules.specs.declared.Setup.{Setup}
 use Rattle.rules.specs.Setups.{permits}
 use Rattle.rules.specs.Model.{limit}
+use Rattle.book.specs.Layout.{bookSize, records, seats, shelfFrom, bookMark0, bookMark1}
 use Rattle.book.specs.Layout.{Fields, fields, setupOf, spot, mark0, mark1}
 
 unfoldable pub pairOk : Setup → ℕ → ℕ → ℕ → Pair → Bool
@@ -36,13 +37,13 @@ unfoldable pub columnOk : Fields → ℕ → ℕ → ℕ → Bool
 columnOk f B k j = pairOk (f .setup) B (f .at j .row j .phase) j (f .at k .row j)
 
 unfoldable pub rowOk : Fields → ℕ → ℕ → Bool
-rowOk f B k = allBelow 8 (columnOk f B k)
+rowOk f B k = allBelow seats (columnOk f B k)
 
 unfoldable pub columnZero : Fields → ℕ → ℕ → Bool
 columnZero f k j = allOf (eqb (f .at k .row j .phase) 0 ∷ eqb (f .at k .row j .clock) 0 ∷ [])
 
 unfoldable pub rowZero : Fields → ℕ → Bool
-rowZero f k = allBelow 8 (columnZero f k)
+rowZero f k = allBelow seats (columnZero f k)
 
 -- a seat that has not started has an all-zero row, and one that has is a desk's
 unfoldable pub seatRest : Fields → ℕ → Bool
@@ -71,17 +72,17 @@ slotOk f k =
     (allOf (eqb (f .at k .tagB) 0 ∷ leb (f .at k .tagA) (f .setup .desks) ∷ rowOk f (f .setup .shelfLag) k ∷ []))
 
 unfoldable pub recordOk : Fields → ℕ → Bool
-recordOk f k = pick (ltb k 8) (seatOk f k) (pick (ltb k 40) (mailOk f k) (slotOk f k))
+recordOk f k = pick (ltb k seats) (seatOk f k) (pick (ltb k shelfFrom) (mailOk f k) (slotOk f k))
 
 unfoldable pub spareZero : List ℕ → ℕ → Bool
 spareZero b i = eqb (byte b (9 + i)) 0
 
 unfoldable pub headOk : List ℕ → Bool
-headOk b = allOf (eqb (byte b 0) 0x42 ∷ eqb (byte b 1) 0x4B ∷ allBelow 7 (spareZero b) ∷ [])
+headOk b = allOf (eqb (byte b 0) bookMark0 ∷ eqb (byte b 1) bookMark1 ∷ allBelow 7 (spareZero b) ∷ [])
 
 unfoldable pub recordSound : List ℕ → ℕ → Bool
 recordSound b k =
     allOf (eqb (byte b (spot k 0)) (mark0 k) ∷ eqb (byte b (spot k 1)) (mark1 k) ∷ recordOk (fields b) k ∷ [])
 
 unfoldable pub sound : List ℕ → Bool
-sound b = allOf (eqb (length b) 1456 ∷ headOk b ∷ permits (setupOf b) ∷ allBelow 72 (recordSound b) ∷ [])
+sound b = allOf (eqb (length b) bookSize ∷ headOk b ∷ permits (setupOf b) ∷ allBelow records (recordSound b) ∷ [])

@@ -20,16 +20,16 @@ use Rattle.rules.specs.declared.Setup.{Setup}
 use Rattle.rules.specs.Model.{limit}
 use Rattle.rules.specs.Model.{Label}
 use Rattle.rules.specs.Replies.{rowOf}
-use Rattle.book.specs.Layout.{markedByte}
+use Rattle.book.specs.Layout.{recordSize, seats, tagASpot, tagBSpot, rowSpot, markedByte}
 
 abbrev pub stampByte : ℕ → Label → ℕ → ℕ
 stampByte D e c = markedByte 0x53 0x54 (record { tagA = e .owner; tagB = D; row = e .row }) c
 
 unfoldable pub writeStamp : ℕ → Label → List ℕ
-writeStamp D e = tab 0 20 (stampByte D e)
+writeStamp D e = tab 0 recordSize (stampByte D e)
 
 abbrev pub labelOf : List ℕ → Label
-labelOf r = record { owner = byte r 2; row = rowOf (drop 4 r) }
+labelOf r = record { owner = byte r tagASpot; row = rowOf (drop rowSpot r) }
 
 unfoldable pub pairReads : Setup → ℕ → Pair → Bool
 pairReads X j q =
@@ -39,12 +39,12 @@ pairReads X j q =
 unfoldable pub readOk : Setup → List ℕ → Bool
 readOk X r =
     allOf
-    (eqb (length r) 20
+    (eqb (length r) recordSize
     ∷ eqb (byte r 0) 0x53
     ∷ eqb (byte r 1) 0x54
-    ∷ ltb (byte r 2) (X .desks)
-    ∷ eqb (byte r 3) (X .desks)
-    ∷ allBelow 8 (λ j. pairReads X j (labelOf r .row j))
+    ∷ ltb (byte r tagASpot) (X .desks)
+    ∷ eqb (byte r tagBSpot) (X .desks)
+    ∷ allBelow seats (λ j. pairReads X j (labelOf r .row j))
     ∷ [])
 
 unfoldable pub readStamp : Setup → List ℕ → Option Label

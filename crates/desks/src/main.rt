@@ -66,7 +66,7 @@ fn take_turn(book: &mut [u8], p: Pending) -> Turn
 // A proved loop has to end, and nothing says that the input does. So the loop counts its turns down,
 // from a number that no run uses up.
 fn main() {
-    let mut book = [0u8; 1456];
+    let mut book = [0u8; parts::BOOK_BYTES];
     let mut t = Turn {
         pending: text::fresh(),
         goes_on: true,

@@ -41,7 +41,7 @@ pub extern "C" fn gulambitok_local(book: &mut [u8], desk: usize, stamp: &mut [u8
     ensures { λ _. ⌜ now (stamp .exit) ≡ given (stampIn (now (book .entry))) (now (stamp .entry))
         (tooShort 20 (now (stamp .entry))) (answerTo (now (book .entry)) (on (Model.local desk))) ⌝ }
 {
-    if stamp.len() < 20 {
+    if stamp.len() < parts::RECORD_BYTES {
         return door::number_by(true, refusals::local_number(&book[..], desk));
     }
     let desks = portal::desks_in(&book[..]);
@@ -64,7 +64,7 @@ pub extern "C" fn gulambitok_receive(
     ensures { λ _. ⌜ now (stamp .exit) ≡ given (stampIn (now (book .entry))) (now (stamp .entry))
         (tooShort 20 (now (stamp .entry))) (answerTo (now (book .entry)) (on (Model.receive desk place))) ⌝ }
 {
-    if stamp.len() < 20 {
+    if stamp.len() < parts::RECORD_BYTES {
         return door::number_by(true, refusals::receive_number(&book[..], desk, place));
     }
     let desks = portal::desks_in(&book[..]);
@@ -82,7 +82,7 @@ pub extern "C" fn gulambitok_reset(book: &mut [u8], desk: usize, stamp: &mut [u8
     ensures { λ _. ⌜ now (stamp .exit) ≡ given (stampIn (now (book .entry))) (now (stamp .entry))
         (tooShort 20 (now (stamp .entry))) (answerTo (now (book .entry)) (on (Model.reset desk))) ⌝ }
 {
-    if stamp.len() < 20 {
+    if stamp.len() < parts::RECORD_BYTES {
         return door::number_by(true, refusals::reset_number(&book[..], desk));
     }
     let desks = portal::desks_in(&book[..]);
@@ -108,7 +108,7 @@ pub extern "C" fn gulambitok_send(
     ensures { λ _. ⌜ now (place .exit) ≡ given byteIn (now (place .entry))
         (eitherShort (now (stamp .entry)) (now (place .entry))) (answerTo (now (book .entry)) (on (Model.send desk to))) ⌝ }
 {
-    if (stamp.len() < 20) | (place.len() < 1) {
+    if (stamp.len() < parts::RECORD_BYTES) | (place.len() < 1) {
         return door::number_by(true, refusals::send_number(&book[..], desk, to));
     }
     let desks = portal::desks_in(&book[..]);
@@ -191,7 +191,7 @@ pub extern "C" fn gulambitok_show(book: &[u8], slot: usize, row: &mut [u8]) -> u
         (answerTo (now (book .entry)) (on (Model.show slot))) ⌝ }
 {
     let n = asking::show_number(book, slot);
-    if row.len() < 16 {
+    if row.len() < parts::ROW_BYTES {
         return door::number_by(true, n);
     }
     if n != rules::DONE {

@@ -1,15 +1,85 @@
-// The numbers of a book in its bytes, its marks, one record written, and a lent buffer filled.
+// The numbers of a book in its bytes, where each stands, its marks, one record written, and a lent buffer filled.
 ghost use mathlib.Core.Path.{_≡_};
-ghost use Prim.Native.Nat.{_+_, _*_, _<_, _≤_};
+ghost use Prim.Native.Nat.{_<_, _≤_};
 ghost use lib.ListN.{length};
 ghost use Rattle.tools.specs.Lists.{byte};
-ghost use Rattle.book.specs.Layout.{spot, fields, setupOf, mark0, mark1};
+ghost use Rattle.book.specs.Layout.{bookSize, recordSize, rowSize, records, seats, phaseSpot, clockSpot};
+ghost use Rattle.book.specs.Layout.{fields, setupOf, mark0, mark1};
 ghost use Rattle.book.specs.Layout;
 ghost use Rattle.book.specs.Stamps.{filled};
 use rules::Setup;
 
+// A book is a header and its records.
+pub const HEAD_BYTES: usize = 16;
+
+pub const RECORD_BYTES: usize = 20;
+
+pub const RECORDS: usize = 72;
+
+pub const BOOK_BYTES: usize = HEAD_BYTES + RECORDS * RECORD_BYTES;
+
+// The records of the seats come first; a row has a pair for each.
+pub const SEATS: usize = 8;
+
+// The record of mail place 0.
+pub const MAIL: usize = 8;
+
+// The record of shelf slot 0.
+pub const SHELF: usize = 40;
+
+// Mail places and shelf slots, each.
+pub const PLACES: usize = 32;
+
+// A record is a mark of two bytes, two tags and a row.
+const TAG_A: usize = 2;
+
+// A seat's fourth byte, a mail place's addressee.
+const TAG_B: usize = 3;
+
+pub const ROW: usize = 4;
+
+pub const ROW_BYTES: usize = 16;
+
+// The mark of a book, its first two bytes.
+pub const BOOK_MARK0: u8 = 0x42;
+
+pub const BOOK_MARK1: u8 = 0x4B;
+
+// The first tag of a seat that has started.
+pub const STARTED: u8 = 1;
+
+// The first tag of a place or slot that is free.
+pub const FREE: u8 = 0;
+
+// A second tag that says nothing.
+pub const FILLER: u8 = 0;
+
+// Where byte c of record k stands.
+pub fn spot(k: usize, c: usize) -> usize
+    requires { ⌜ (k < records) × (c < recordSize) ⌝ }
+    ensures { λ r. ⌜ r ≡ Layout.spot k c ⌝ }
+{
+    HEAD_BYTES + RECORD_BYTES * k + c
+}
+
+// Which byte of a row is the phase of desk j.
+pub fn phase_spot(j: usize) -> usize
+    requires { ⌜ j < seats ⌝ }
+    ensures { λ r. ⌜ r ≡ phaseSpot j ⌝ }
+{
+    2 * j
+}
+
+// Which byte of a row is the clock of desk j.
+pub fn clock_spot(j: usize) -> usize
+    requires { ⌜ j < seats ⌝ }
+    ensures { λ r. ⌜ r ≡ clockSpot j ⌝ }
+{
+    1 + 2 * j
+}
+
 pub fn setup_of(book: &[u8]) -> Setup
-    requires { ⌜ length (now book) ≡ 1456 ⌝ }
+    requires { ⌜ length (now book) ≡ bookSize ⌝ }
     ensures { λ r. ⌜ r ≡ setupOf (now (book .entry)) ⌝ }
 {
     Setup {
@@ -24,87 +94,87 @@ pub fn setup_of(book: &[u8]) -> Setup
 }
 
 pub fn desks_of(book: &[u8]) -> usize
-    requires { ⌜ length (now book) ≡ 1456 ⌝ }
+    requires { ⌜ length (now book) ≡ bookSize ⌝ }
     ensures { λ r. ⌜ r ≡ setupOf (now (book .entry)) .desks ⌝ }
 {
     tools::wide(book[2])
 }
 
 pub fn phases_of(book: &[u8]) -> u8
-    requires { ⌜ length (now book) ≡ 1456 ⌝ }
+    requires { ⌜ length (now book) ≡ bookSize ⌝ }
     ensures { λ r. ⌜ r ≡ setupOf (now (book .entry)) .phases ⌝ }
 {
     book[3]
 }
 
 pub fn seat_lag_of(book: &[u8]) -> u8
-    requires { ⌜ length (now book) ≡ 1456 ⌝ }
+    requires { ⌜ length (now book) ≡ bookSize ⌝ }
     ensures { λ r. ⌜ r ≡ setupOf (now (book .entry)) .seatLag ⌝ }
 {
     book[5]
 }
 
 pub fn shelf_lag_of(book: &[u8]) -> usize
-    requires { ⌜ length (now book) ≡ 1456 ⌝ }
+    requires { ⌜ length (now book) ≡ bookSize ⌝ }
     ensures { λ r. ⌜ r ≡ setupOf (now (book .entry)) .shelfLag ⌝ }
 {
     tools::wide(book[6])
 }
 
 pub fn clocks_of(book: &[u8]) -> usize
-    requires { ⌜ length (now book) ≡ 1456 ⌝ }
+    requires { ⌜ length (now book) ≡ bookSize ⌝ }
     ensures { λ r. ⌜ r ≡ setupOf (now (book .entry)) .clocks ⌝ }
 {
     tools::wide(book[4])
 }
 
 pub fn byte_at(book: &[u8], k: usize, c: usize) -> u8
-    requires { ⌜ length (now book) ≡ 1456 ⌝ }
-    requires { ⌜ (k < 72) × (c < 20) ⌝ }
-    ensures { λ r. ⌜ r ≡ byte (now (book .entry)) (spot k c) ⌝ }
+    requires { ⌜ length (now book) ≡ bookSize ⌝ }
+    requires { ⌜ (k < records) × (c < recordSize) ⌝ }
+    ensures { λ r. ⌜ r ≡ byte (now (book .entry)) (Layout.spot k c) ⌝ }
 {
-    book[16 + 20 * k + c]
+    book[spot(k, c)]
 }
 
 pub fn phase_at(book: &[u8], k: usize, j: usize) -> u8
-    requires { ⌜ length (now book) ≡ 1456 ⌝ }
-    requires { ⌜ (k < 72) × (j < 8) ⌝ }
+    requires { ⌜ length (now book) ≡ bookSize ⌝ }
+    requires { ⌜ (k < records) × (j < seats) ⌝ }
     ensures { λ r. ⌜ r ≡ fields (now (book .entry)) .at k .row j .phase ⌝ }
 {
-    book[16 + 20 * k + (4 + 2 * j)]
+    book[spot(k, ROW) + phase_spot(j)]
 }
 
 pub fn clock_at(book: &[u8], k: usize, j: usize) -> u8
-    requires { ⌜ length (now book) ≡ 1456 ⌝ }
-    requires { ⌜ (k < 72) × (j < 8) ⌝ }
+    requires { ⌜ length (now book) ≡ bookSize ⌝ }
+    requires { ⌜ (k < records) × (j < seats) ⌝ }
     ensures { λ r. ⌜ r ≡ fields (now (book .entry)) .at k .row j .clock ⌝ }
 {
-    book[16 + 20 * k + (5 + 2 * j)]
+    book[spot(k, ROW) + clock_spot(j)]
 }
 
 pub fn tag_a(book: &[u8], k: usize) -> u8
-    requires { ⌜ length (now book) ≡ 1456 ⌝ }
-    requires { ⌜ k < 72 ⌝ }
+    requires { ⌜ length (now book) ≡ bookSize ⌝ }
+    requires { ⌜ k < records ⌝ }
     ensures { λ r. ⌜ r ≡ fields (now (book .entry)) .at k .tagA ⌝ }
 {
-    book[16 + 20 * k + 2]
+    byte_at(book, k, TAG_A)
 }
 
 pub fn tag_b(book: &[u8], k: usize) -> u8
-    requires { ⌜ length (now book) ≡ 1456 ⌝ }
-    requires { ⌜ k < 72 ⌝ }
+    requires { ⌜ length (now book) ≡ bookSize ⌝ }
+    requires { ⌜ k < records ⌝ }
     ensures { λ r. ⌜ r ≡ fields (now (book .entry)) .at k .tagB ⌝ }
 {
-    book[16 + 20 * k + 3]
+    byte_at(book, k, TAG_B)
 }
 
 pub fn first_mark(k: usize) -> u8
     ensures { λ r. ⌜ r ≡ mark0 k ⌝ }
 {
-    if k < 8 {
+    if k < SEATS {
         return 0x53;
     }
-    if k < 40 {
+    if k < SHELF {
         return 0x4D;
     }
     0x53
@@ -113,36 +183,36 @@ pub fn first_mark(k: usize) -> u8
 pub fn second_mark(k: usize) -> u8
     ensures { λ r. ⌜ r ≡ mark1 k ⌝ }
 {
-    if k < 8 {
+    if k < SEATS {
         return 0x45;
     }
-    if k < 40 {
+    if k < SHELF {
         return 0x41;
     }
     0x48
 }
 
 fn fill_row(part: &mut [u8], row: [u8; 16])
-    requires { ⌜ length (now part) ≡ 16 ⌝ }
+    requires { ⌜ length (now part) ≡ rowSize ⌝ }
     ensures { λ _. ⌜ now (part .exit) ≡ row ⌝ }
 {
     let mut i: usize = 0;
-    while i < 16 {
+    while i < ROW_BYTES {
         part[i] = row[i];
         i += 1;
     }
 }
 
 pub fn post(book: &mut [u8], k: usize, x: u8, y: u8, row: [u8; 16])
-    requires { ⌜ length (now book) ≡ 1456 ⌝ }
-    requires { ⌜ k < 72 ⌝ }
+    requires { ⌜ length (now book) ≡ bookSize ⌝ }
+    requires { ⌜ k < records ⌝ }
     ensures { λ _. ⌜ now (book .exit) ≡ Layout.post (now (book .entry)) k x y row ⌝ }
 {
-    let a = 16 + 20 * k + 4;
-    let e = a + 16;
+    let a = spot(k, ROW);
+    let e = a + ROW_BYTES;
     fill_row(&mut book[a..e], row);
-    book[16 + 20 * k + 2] = x;
-    book[16 + 20 * k + 3] = y;
+    book[spot(k, TAG_A)] = x;
+    book[spot(k, TAG_B)] = y;
 }
 
 // Bytes are written in front of a lent buffer, the rest of it as it was.

@@ -22,7 +22,7 @@ use Rattle.rules.specs.Model.{Result, reasons, done, own, event, freeMail, free
 use Rattle.rules.specs.Calls.{on, ringOf}
 use Rattle.rules.specs.Replies.{rowBytes, rowOf, stampedSays, postedSays, keptSays, blank, Beside, BesidePost}
 use Rattle.rules.proofs.Accepted.{no-local, no-send, no-receive, no-reset, no-keep}
-use Rattle.book.specs.Layout.{setupOf, rowAt, Holds, post}
+use Rattle.book.specs.Layout.{shelfFrom, mailFrom, setupOf, rowAt, Holds, post}
 use Rattle.book.specs.Sound.{sound}
 use Rattle.book.specs.Codec.{write}
 use Rattle.book.specs.Answers.{answerTo, leaves, bookAfter}
@@ -156,12 +156,12 @@ module _ (s : List ℕ) (j p : ℕ) (e : numberOf s (receive j p) ≡ 0) where
   receive-place = receive-clear .3
 
   pub receive-stamps : (x : Stamped) (row b b′ : List ℕ) → x ≡ taken j row → row ≡ rowBytes (mergedRow s j p)
-      → b ≡ cleared s (8 + p) → b′ ≡ post b j 1 0 row → Stamps s (receive j p) x b′
+      → b ≡ cleared s (mailFrom + p) → b′ ≡ post b j 1 0 row → Stamps s (receive j p) x b′
   unfolding done
   receive-stamps x row b b′ ex er eb eb′ =
       let g = receive-grows .at in
       event-stamps s (receive j p) e j (g .eight) (mergedRow s j p) (put (tablesOf s .mail) p none) (stamp j (mergedRow s j p)) refl
-      (cleared s (8 + p))
+      (cleared s (mailFrom + p))
       (mail-put (setupOf s) (tablesOf s) s (decode-holds s (g .whole)) p receive-place none) row er
       (merged-eight s (ringOf (setupOf s)) j p (g .eight)) refl x b′ ex (eb′ ∙ ap (λ (y : List ℕ). post y j 1 0 row) eb)
 
@@ -183,7 +183,7 @@ module _ (s : List ℕ) (j k : ℕ) (e : numberOf s (send j k) ≡ 0) where
   mailed = post s (8 + freeMail (tablesOf s)) (j + 1) (k + 1) (rowBytes (grownRow s j))
 
   pub send-sends : (p : ℕ) (x : Stamp) (row b b′ : List ℕ) → p ≡ freeMail (tablesOf s) → x ≡ record { owner = j; row = row }
-      → row ≡ rowBytes (grownRow s j) → b ≡ post s (8 + p) (j + 1) (k + 1) row → b′ ≡ post b j 1 0 row
+      → row ≡ rowBytes (grownRow s j) → b ≡ post s (mailFrom + p) (j + 1) (k + 1) row → b′ ≡ post b j 1 0 row
       → Sends s (send j k) (Posts.At p) x b′
   unfolding done
   send-sends p x row b b′ ep ex er eb eb′ =
@@ -213,15 +213,16 @@ module _ (s : List ℕ) (j : ℕ) (e : numberOf s (keep j) ≡ 0) where
   pub keep-slot : freeSlot (tablesOf s) < 32
   keep-slot = keep-clear .2
 
-  pub keep-keeping : (p : ℕ) (row b : List ℕ) → p ≡ freeSlot (tablesOf s) → row ≡ rowBytes (rowAt s j) → b ≡ post s (40 + p) (j + 1) 0 row
+  pub keep-keeping : (p : ℕ) (row b : List ℕ) → p ≡ freeSlot (tablesOf s) → row ≡ rowBytes (rowAt s j)
+      → b ≡ post s (shelfFrom + p) (j + 1) 0 row
       → Keeping s (keep j) (Keeps.Slot p) b
   unfolding done
   keep-keeping p row b ep er eb =
       let g = keep-at in
       let f = freeSlot (tablesOf s) in (
         ap (λ (q : ℕ). accepted (slot q)) ep ∙ accepted-answer s (keep j) e,
-        eb ∙ (λ i. post s (40 + ep i) (j + 1) 0 (er i))
-            ∙ ap (post s (40 + f) (j + 1) 0)
+        eb ∙ (λ i. post s (shelfFrom + ep i) (j + 1) 0 (er i))
+            ∙ ap (post s (shelfFrom + f) (j + 1) 0)
             (rows-alike (rowAt s j) (tablesOf s .seat j .row)
             (λ k l. sym (ap (λ (r : Row). r k) (seat-row s j (g .eight)) ∙ read-at (rowAt s j) k l)))
             ∙ accepted-bytes s (keep j) e _
@@ -253,11 +254,11 @@ module _ (s : List ℕ) (a p : ℕ) where
         subst (λ (m : ℕ). Files s c m b) (sym en)
         (subst (λ (y : List ℕ). Files s c (usedNumber s a p) y) (sym eb) (number-files (usedNumber s a p) e))
 
-pub drop-files : (s : List ℕ) (p n : ℕ) (b : List ℕ) → n ≡ usedNumber s 40 p → b ≡ freeAfter s 40 p → Files s (drop p) n b
+pub drop-files : (s : List ℕ) (p n : ℕ) (b : List ℕ) → n ≡ usedNumber s shelfFrom p → b ≡ freeAfter s shelfFrom p → Files s (drop p) n b
 unfolding reasons done
 drop-files s p =
-    free-files s 40 p (drop p) refl (accepted-answer s (drop p))
-    (λ e. let u = used-ready s 40 p e in slot-put (setupOf s) (tablesOf s) s (decode-holds s (u .0)) p (u .1) none)
+    free-files s shelfFrom p (drop p) refl (accepted-answer s (drop p))
+    (λ e. let u = used-ready s shelfFrom p e in slot-put (setupOf s) (tablesOf s) s (decode-holds s (u .0)) p (u .1) none)
 
 pub discard-files : (s : List ℕ) (p n : ℕ) (b : List ℕ) → n ≡ usedNumber s 8 p → b ≡ freeAfter s 8 p → Files s (discard p) n b
 unfolding reasons done

@@ -19,7 +19,8 @@ use Rattle.rules.specs.Model.{refusal, zeros, fresh}
 use Rattle.rules.specs.Calls.{start, call, freshBook}
 use Rattle.rules.specs.Replies.{rowByte, rowBytes}
 use Rattle.rules.proofs.Setups.{Ranged, ranged}
-use Rattle.book.specs.Layout.{Record, spot, headByte, mark0, mark1, recordByte}
+use Rattle.book.specs.Layout.{rowSpot, tagASpot, tagBSpot}
+use Rattle.book.specs.Layout.{bookSize, records, shelfFrom, Record, spot, headByte, mark0, mark1, recordByte}
 use Rattle.book.specs.Codec.{recordOf, write, encode}
 use Rattle.book.specs.Answers.{admits, answerTo, bookAfter}
 use Rattle.book.proofs.Bytes.{record-bytes, layout-is}
@@ -43,7 +44,7 @@ abbrev none : Record
 none = record { tagA = 0; tagB = 0; row = zeros }
 
 fresh-record : (k : ℕ) → recordOf fresh k ≡ none
-fresh-record k = go (ltb k 8) (ltb k 40)
+fresh-record k = go (ltb k 8) (ltb k shelfFrom)
   where
     go : (t u : Bool) → pick t none (pick u none none) ≡ none
     go true u = refl
@@ -52,43 +53,42 @@ fresh-record k = go (ltb k 8) (ltb k 40)
 
 -- the first sixteen bytes are f's, and the first n records are fresh
 pub record Written (f : ℕ → ℕ) (n : ℕ) (b : List ℕ) : Type 0 where
-  pub size : length b ≡ 1456
+  pub size : length b ≡ bookSize
   pub head : (i : ℕ) → i < 16 → f i ≡ byte b i
   pub there : (k c : ℕ) → k < n → c < 20 → recordByte k none c ≡ byte b (spot k c)
 
-pub written-none : (b : List ℕ) → length b ≡ 1456 → Written (byte b) 0 b
+pub written-none : (b : List ℕ) → length b ≡ bookSize → Written (byte b) 0 b
 written-none b e = record { size = e; head = λ i l. refl; there = λ k c l m. absurd (omega arith) }
 
-module _ (b : List ℕ) (size : length b ≡ 1456) (n : ℕ) (l : n < 72) where
+module _ (b : List ℕ) (size : length b ≡ bookSize) (n : ℕ) (l : n < records) where
   abbrev marked : List ℕ
-  marked = set (cleared b n) (16 + 20 * n) (mark0 n)
+  marked = set (cleared b n) (spot n 0) (mark0 n)
 
-  cleared-length : length (cleared b n) ≡ 1456
+  cleared-length : length (cleared b n) ≡ bookSize
   cleared-length = post-length b size n 0 0 l zeros
 
-  marked-length : length marked ≡ 1456
-  marked-length = length-set (cleared b n) (16 + 20 * n) (mark0 n) ∙ cleared-length
+  marked-length : length marked ≡ bookSize
+  marked-length = length-set (cleared b n) (spot n 0) (mark0 n) ∙ cleared-length
 
-  pub freed-length : length (freed b n) ≡ 1456
-  freed-length = length-set marked (16 + 20 * n + 1) (mark1 n) ∙ marked-length
+  pub freed-length : length (freed b n) ≡ bookSize
+  freed-length = length-set marked (spot n 1) (mark1 n) ∙ marked-length
 
   -- a byte that is none of the mark
-  past-mark : (i : ℕ) → (i ≡ 16 + 20 * n → ⊥) → (i ≡ 16 + 20 * n + 1 → ⊥) → byte (cleared b n) i ≡ byte (freed b n) i
+  past-mark : (i : ℕ) → (i ≡ spot n 0 → ⊥) → (i ≡ spot n 1 → ⊥) → byte (cleared b n) i ≡ byte (freed b n) i
   past-mark i n0 n1 =
-      sym (getD-set-other marked (16 + 20 * n + 1) i (mark1 n) 0 n1 ∙ getD-set-other (cleared b n) (16 + 20 * n) i (mark0 n) 0 n0)
+      sym (getD-set-other marked (spot n 1) i (mark1 n) 0 n1 ∙ getD-set-other (cleared b n) (spot n 0) i (mark0 n) 0 n0)
 
   freed-here : (c : ℕ) → c < 20 → recordByte n none c ≡ byte (freed b n) (spot n c)
   freed-here =
       record-bytes n none (λ c v. v ≡ byte (freed b n) (spot n c))
-      (let e : 16 + 20 * n ≡ spot n 0 = omega arith in
-      sym (getD-set-same (cleared b n) (16 + 20 * n) (mark0 n) 0 (omega (arith, cleared-length)))
-      ∙ sym (getD-set-other marked (16 + 20 * n + 1) (16 + 20 * n) (mark1 n) 0 (omega arith)) ∙ ap (byte (freed b n)) e)
-      (sym (getD-set-same marked (16 + 20 * n + 1) (mark1 n) 0 (omega (arith, marked-length))))
-      (sym (post-A b size n 0 0 l zeros) ∙ past-mark (spot n 2) (omega arith) (omega arith))
-      (sym (post-B b size n 0 0 l zeros) ∙ past-mark (spot n 3) (omega arith) (omega arith))
-      (λ c m. sym (post-row b size n 0 0 l zeros c m) ∙ past-mark (spot n (4 + c)) (omega arith) (omega arith))
+      (sym (getD-set-same (cleared b n) (spot n 0) (mark0 n) 0 (omega (arith, cleared-length)))
+      ∙ sym (getD-set-other marked (spot n 1) (spot n 0) (mark1 n) 0 (omega arith)))
+      (sym (getD-set-same marked (spot n 1) (mark1 n) 0 (omega (arith, marked-length))))
+      (sym (post-A b size n 0 0 l zeros) ∙ past-mark (spot n tagASpot) (omega arith) (omega arith))
+      (sym (post-B b size n 0 0 l zeros) ∙ past-mark (spot n tagBSpot) (omega arith) (omega arith))
+      (λ c m. sym (post-row b size n 0 0 l zeros c m) ∙ past-mark (spot n (rowSpot + c)) (omega arith) (omega arith))
 
-pub written-more : (f : ℕ → ℕ) (n : ℕ) (b : List ℕ) → Written f n b → n < 72 → Written f (n + 1) (freed b n)
+pub written-more : (f : ℕ → ℕ) (n : ℕ) (b : List ℕ) → Written f n b → n < records → Written f (n + 1) (freed b n)
 written-more f n b h l =
     record {
       size = freed-length b (h .size) n l;
@@ -105,7 +105,8 @@ written-more f n b h l =
           subst (λ (i : ℕ). recordByte i none c ≡ byte (freed b n) (spot i c)) e (freed-here b (h .size) n l c lc)) (lt-or-le k n);
     }
 
-pub written-all : (X : Setup) (old b : List ℕ) → Filled 1456 16 (headByte X) old → Written (byte old) 72 b → b ≡ encode (freshBook X)
+pub written-all : (X : Setup) (old b : List ℕ) → Filled bookSize 16 (headByte X) old → Written (byte old) records b
+    → b ≡ encode (freshBook X)
 written-all X old b head h =
     sym (layout-is (write (freshBook X)) b
     (record {
@@ -119,20 +120,20 @@ module _ (s : List ℕ) (X : Setup) where
   abbrev pub Starts : ℕ → List ℕ → Type 0
   Starts n b = (refusal n ≡ answerTo s (start X)) × (b ≡ bookAfter s (start X))
 
-  pub start-badbook : (length s ≡ 1456 → ⊥) → Starts 1 s
+  pub start-badbook : (length s ≡ bookSize → ⊥) → Starts 1 s
   unfolding answerTo bookAfter admits
-  start-badbook n = (rw (answerTo, admits, ne-eqb (length s) 1456 n), rw (bookAfter, answerTo, admits, ne-eqb (length s) 1456 n))
+  start-badbook n = (rw (answerTo, admits, ne-eqb (length s) bookSize n), rw (bookAfter, answerTo, admits, ne-eqb (length s) bookSize n))
 
-  pub start-badsetup : length s ≡ 1456 → permits X ≡ false → Starts 2 s
+  pub start-badsetup : length s ≡ bookSize → permits X ≡ false → Starts 2 s
   unfolding answerTo bookAfter admits call
   start-badsetup e p = (
-    rw (answerTo, admits, eq-eqb (length s) 1456 e, call, p),
-    rw (bookAfter, answerTo, admits, eq-eqb (length s) 1456 e, call, p),
+    rw (answerTo, admits, eq-eqb (length s) bookSize e, call, p),
+    rw (bookAfter, answerTo, admits, eq-eqb (length s) bookSize e, call, p),
   )
 
-  pub start-done : length s ≡ 1456 → permits X ≡ true → Starts 0 (encode (freshBook X))
+  pub start-done : length s ≡ bookSize → permits X ≡ true → Starts 0 (encode (freshBook X))
   unfolding answerTo bookAfter admits call
   start-done e p = (
-    rw (answerTo, admits, eq-eqb (length s) 1456 e, call, p),
-    rw (bookAfter, answerTo, admits, eq-eqb (length s) 1456 e, call, p),
+    rw (answerTo, admits, eq-eqb (length s) bookSize e, call, p),
+    rw (bookAfter, answerTo, admits, eq-eqb (length s) bookSize e, call, p),
   )

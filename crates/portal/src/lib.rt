@@ -12,7 +12,7 @@ ghost use Rattle.rules.specs.Calls.{on, freshBook};
 ghost use Rattle.rules.specs.Replies.{stampedSays, postedSays, keptSays, toldSays, comparedSays, blank};
 ghost use Rattle.rules.specs.Replies.{Beside, BesidePost};
 ghost use Rattle.book.specs.Layout;
-ghost use Rattle.book.specs.Layout.{headByte};
+ghost use Rattle.book.specs.Layout.{bookSize, records, shelfFrom, seats, headSize, headByte};
 ghost use Rattle.book.specs.Codec.{encode};
 ghost use Rattle.book.specs.Answers.{answerTo, bookAfter, partOf, targetAfter};
 ghost use Rattle.refusals.specs.First.{usedNumber};
@@ -25,14 +25,6 @@ use rules::Setup;
 use rules::Stamp;
 use rules::Stamped;
 use rules::Told;
-
-// A seat's first tag once it has started; a free place or slot has a zero there.
-const STARTED: u8 = 1;
-
-const FREE: u8 = 0;
-
-// The filler of a tag that says nothing.
-const FILLER: u8 = 0;
 
 // The byte of D in a book of any length, 0 in one too short to have it: who prints a stamp asks it before the call.
 pub fn desks_in(book: &[u8]) -> u8
@@ -65,21 +57,21 @@ fn refused(number: u8) -> Stamped
 
 // A free place or slot has its mark and 18 zeros.
 fn clear(book: &mut [u8], k: usize)
-    requires { ⌜ length (now book) ≡ 1456 ⌝ }
-    requires { ⌜ k < 72 ⌝ }
+    requires { ⌜ length (now book) ≡ bookSize ⌝ }
+    requires { ⌜ k < records ⌝ }
     ensures { λ _. ⌜ now (book .exit) ≡ cleared (now (book .entry)) k ⌝ }
 {
-    parts::post(book, k, FREE, FILLER, [0u8; 16]);
+    parts::post(book, k, parts::FREE, parts::FILLER, [0u8; 16]);
 }
 
 // All four events mark the seat started and answer a stamp.
 fn take_row(book: &mut [u8], desk: usize, row: [u8; 16]) -> Stamped
-    requires { ⌜ length (now book) ≡ 1456 ⌝ }
-    requires { ⌜ desk < 8 ⌝ }
+    requires { ⌜ length (now book) ≡ bookSize ⌝ }
+    requires { ⌜ desk < seats ⌝ }
     ensures { λ r. ⌜ r ≡ record { number = 0; stamp = record { owner = desk; row = row } } ⌝ }
     ensures { λ _. ⌜ now (book .exit) ≡ Layout.post (now (book .entry)) desk 1 0 row ⌝ }
 {
-    parts::post(book, desk, STARTED, FILLER, row);
+    parts::post(book, desk, parts::STARTED, parts::FILLER, row);
     let stamp = Stamp {
         owner: desk as u8,
         row: row,
@@ -92,11 +84,11 @@ fn take_row(book: &mut [u8], desk: usize, row: [u8; 16]) -> Stamped
 
 fn head_of(s: Setup) -> [u8; 16]
     requires { ⌜ permits s ≡ true ⌝ }
-    ensures { λ r. ⌜ r ≡ tab 0 16 (headByte s) ⌝ }
+    ensures { λ r. ⌜ r ≡ tab 0 headSize (headByte s) ⌝ }
 {
     [
-        0x42,
-        0x4B,
+        parts::BOOK_MARK0,
+        parts::BOOK_MARK1,
         s.desks as u8,
         s.phases as u8,
         s.clocks as u8,
@@ -115,37 +107,37 @@ fn head_of(s: Setup) -> [u8; 16]
 }
 
 fn write_head(book: &mut [u8], s: Setup)
-    requires { ⌜ length (now book) ≡ 1456 ⌝ }
+    requires { ⌜ length (now book) ≡ bookSize ⌝ }
     requires { ⌜ permits s ≡ true ⌝ }
-    ensures { λ _. ⌜ Filled 1456 16 (headByte s) (now (book .exit)) ⌝ }
+    ensures { λ _. ⌜ Filled bookSize headSize (headByte s) (now (book .exit)) ⌝ }
 {
     let head = head_of(s);
     let mut i: usize = 0;
-    while i < 16 {
+    while i < parts::HEAD_BYTES {
         book[i] = head[i];
         i += 1;
     }
 }
 
 fn write_free(book: &mut [u8], k: usize)
-    requires { ⌜ length (now book) ≡ 1456 ⌝ }
-    requires { ⌜ k < 72 ⌝ }
+    requires { ⌜ length (now book) ≡ bookSize ⌝ }
+    requires { ⌜ k < records ⌝ }
     ensures { λ _. ⌜ now (book .exit) ≡ freed (now (book .entry)) k ⌝ }
 {
     clear(book, k);
-    book[16 + 20 * k] = parts::first_mark(k);
-    book[16 + 20 * k + 1] = parts::second_mark(k);
+    book[parts::spot(k, 0)] = parts::first_mark(k);
+    book[parts::spot(k, 1)] = parts::second_mark(k);
 }
 
 // Record by record, so that no byte is looked up by a division.
 fn write_fresh(book: &mut [u8], s: Setup)
-    requires { ⌜ length (now book) ≡ 1456 ⌝ }
+    requires { ⌜ length (now book) ≡ bookSize ⌝ }
     requires { ⌜ permits s ≡ true ⌝ }
     ensures { λ _. ⌜ now (book .exit) ≡ encode (freshBook s) ⌝ }
 {
     write_head(book, s);
     let mut k: usize = 0;
-    while k < 72 {
+    while k < parts::RECORDS {
         write_free(book, k);
         k += 1;
     }
@@ -156,7 +148,7 @@ pub fn start(book: &mut [u8], s: Setup) -> u8
     ensures { λ r. ⌜ refusal r ≡ answerTo (now (book .entry)) (Calls.start s) ⌝ }
     ensures { λ _. ⌜ now (book .exit) ≡ bookAfter (now (book .entry)) (Calls.start s) ⌝ }
 {
-    if book.len() != 1456 {
+    if book.len() != parts::BOOK_BYTES {
         return rules::BAD_BOOK;
     }
     if !rules::permits(s) {
@@ -194,9 +186,9 @@ pub fn send(book: &mut [u8], desk: usize, to: usize) -> Sent
             stamp: stamp,
         };
     }
-    let p = refusals::free_from(&book[..], rows::MAIL);
+    let p = refusals::free_from(&book[..], parts::MAIL);
     let row = rows::grown_row(&book[..], desk);
-    parts::post(book, rows::MAIL + p, (desk + 1) as u8, (to + 1) as u8, row);
+    parts::post(book, parts::MAIL + p, (desk + 1) as u8, (to + 1) as u8, row);
     let stamped = take_row(book, desk, row);
     let stamp = stamped.stamp;
     Sent {
@@ -216,7 +208,7 @@ pub fn receive(book: &mut [u8], desk: usize, place: usize) -> Stamped
         return refused(n);
     }
     let row = rows::merged_row(&book[..], desk, place);
-    let from = rows::MAIL + place;
+    let from = parts::MAIL + place;
     clear(book, from);
     take_row(book, desk, row)
 }
@@ -244,15 +236,15 @@ pub fn keep(book: &mut [u8], desk: usize) -> Kept
     if n != rules::DONE {
         return Kept::Refused(n);
     }
-    let s = refusals::free_from(&book[..], rows::SHELF);
+    let s = refusals::free_from(&book[..], parts::SHELF);
     let row = rows::row_array(&book[..], desk);
-    parts::post(book, rows::SHELF + s, (desk + 1) as u8, FILLER, row);
+    parts::post(book, parts::SHELF + s, (desk + 1) as u8, parts::FILLER, row);
     Kept::Slot(s as u8)
 }
 
 // Drop and discard: a used slot or place is freed, any other refused; a is the record of the first.
 fn free(book: &mut [u8], a: usize, p: usize) -> u8
-    requires { ⌜ a ≤ 40 ⌝ }
+    requires { ⌜ a ≤ shelfFrom ⌝ }
     ensures { λ r. ⌜ r ≡ usedNumber (now (book .entry)) a p ⌝ }
     ensures { λ _. ⌜ now (book .exit) ≡ freeAfter (now (book .entry)) a p ⌝ }
 {
@@ -269,7 +261,7 @@ pub fn drop(book: &mut [u8], slot: usize) -> u8
     ensures { λ r. ⌜ refusal r ≡ answerTo (now (book .entry)) (on (Model.drop slot)) ⌝ }
     ensures { λ _. ⌜ now (book .exit) ≡ bookAfter (now (book .entry)) (on (Model.drop slot)) ⌝ }
 {
-    free(book, rows::SHELF, slot)
+    free(book, parts::SHELF, slot)
 }
 
 // Discard frees a mail place.
@@ -277,7 +269,7 @@ pub fn discard(book: &mut [u8], place: usize) -> u8
     ensures { λ r. ⌜ refusal r ≡ answerTo (now (book .entry)) (on (Model.discard place)) ⌝ }
     ensures { λ _. ⌜ now (book .exit) ≡ bookAfter (now (book .entry)) (on (Model.discard place)) ⌝ }
 {
-    free(book, rows::MAIL, place)
+    free(book, parts::MAIL, place)
 }
 
 // Before, of the stamps in two slots.

@@ -14,7 +14,7 @@ use Rattle.tools.proofs.Tests.{eq-by, and-true-r, not-off}
 use Rattle.ring.specs.Phases.{Pair, lagOf}
 use Rattle.rules.specs.Model.{Row, used, toIn, noDesk, lags}
 use Rattle.rules.specs.Calls.{ringOf}
-use Rattle.book.specs.Layout.{spot, rowAt, fields, setupOf}
+use Rattle.book.specs.Layout.{tagASpot, tagBSpot, mailFrom, spot, rowAt, fields, setupOf}
 use Rattle.book.specs.Sound.{sound}
 use Rattle.book.specs.Codec.{readHeld}
 use Rattle.book.specs.Numbers.{tablesOf}
@@ -43,8 +43,8 @@ module _ (s : List ℕ) (a p : ℕ) where
     used-held = rw (lt-ltb p 32 l) (and-true (used (readHeld (fields s .at (a + p)))))
 
     -- a place is used when its first tag is not 0
-    pub used-tag : not (eqb (byte s (spot (a + p) 2)) 0) ≡ usedAt s a p
-    used-tag = sym (used-held ∙ rw (lt-ltb p 32 l) (go (eqb (byte s (spot (a + p) 2)) 0)))
+    pub used-tag : not (eqb (byte s (spot (a + p) tagASpot)) 0) ≡ usedAt s a p
+    used-tag = sym (used-held ∙ rw (lt-ltb p 32 l) (go (eqb (byte s (spot (a + p) tagASpot)) 0)))
       where
         go : (t : Bool)
             → used (pick t none (some (heldIn s (a + p)))) ≡ not t
@@ -52,7 +52,7 @@ module _ (s : List ℕ) (a p : ℕ) where
         go false = refl
 
     pub held-lags : (j : ℕ) → j < 8 → (B : ℕ) → (usedAt s a p && eqb (lagIn s j (a + p)) B) ≡ lagsAt s j B a p
-    held-lags j lj B = rw (sym used-tag, lt-ltb p 32 l) (go (eqb (byte s (spot (a + p) 2)) 0))
+    held-lags j lj B = rw (sym used-tag, lt-ltb p 32 l) (go (eqb (byte s (spot (a + p) tagASpot)) 0))
       where
         go : (t : Bool)
             → (not t && eqb (lagIn s j (a + p)) B)
@@ -63,16 +63,17 @@ module _ (s : List ℕ) (a p : ℕ) where
 
 -- waiting mail names its addressee plus 1
 pub addressed : (s : List ℕ) → sound s ≡ true → (p : ℕ) → p < 32 → usedAt s 8 p ≡ true → (j : ℕ)
-    → eqb (byte s (spot (8 + p) 3)) (j + 1) ≡ eqb (toIn (tablesOf s .mail p)) j
-addressed s h p l u j = rw (lt-ltb p 32 l) (go (eqb (byte s (spot (8 + p) 2)) 0) refl)
+    → eqb (byte s (spot (mailFrom + p) tagBSpot)) (j + 1) ≡ eqb (toIn (tablesOf s .mail p)) j
+addressed s h p l u j = rw (lt-ltb p 32 l) (go (eqb (byte s (spot (mailFrom + p) tagASpot)) 0) refl)
   where
-    go : (t : Bool) → eqb (byte s (spot (8 + p) 2)) 0 ≡ t
-        → eqb (byte s (spot (8 + p) 3)) (j + 1)
-        ≡ eqb (toIn (pick t none (some (heldIn s (8 + p))))) j
+    go : (t : Bool) → eqb (byte s (spot (mailFrom + p) tagASpot)) 0 ≡ t
+        → eqb (byte s (spot (mailFrom + p) tagBSpot)) (j + 1)
+        ≡ eqb (toIn (pick t none (some (heldIn s (mailFrom + p))))) j
     go true e = absurd (false≢true (sym (sym (used-tag s 8 p l) ∙ ap not e) ∙ u))
     go false e =
-        let some-to = sound-mail s h p l .some-to (eqb-false (byte s (spot (8 + p) 2)) 0 e) in
-        eq-by (byte s (spot (8 + p) 3)) (j + 1) (byte s (spot (8 + p) 3) - 1) j (λ q. omega arith) (λ q. omega arith)
+        let some-to = sound-mail s h p l .some-to (eqb-false (byte s (spot (mailFrom + p) tagASpot)) 0 e) in
+        eq-by (byte s (spot (mailFrom + p) tagBSpot)) (j + 1) (byte s (spot (mailFrom + p) tagBSpot) - 1) j (λ q. omega arith)
+        (λ q. omega arith)
 
 pub seat-lags : (s : List ℕ) (j k : ℕ) → j < 8 → k < 8
     → (not (eqb k j) && eqb (lagIn s j k) (byte s 5)) ≡ seatLagsAt s j k

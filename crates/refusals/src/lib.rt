@@ -6,17 +6,14 @@ ghost use lib.Dec.{ltb, eqb};
 ghost use lib.ListN.{length};
 ghost use Rattle.rules.specs.Model;
 ghost use Rattle.rules.specs.Model.{noDesk, atLimit, toIn};
-ghost use Rattle.book.specs.Layout.{setupOf};
+ghost use Rattle.book.specs.Layout.{bookSize, records, shelfFrom, mailFrom, seats, places, setupOf};
 ghost use Rattle.book.specs.Numbers.{tablesOf, numberOf};
 ghost use Rattle.rows.specs.Rows.{AtDesk};
 ghost use Rattle.refusals.specs.Held.{usedAt, freeFrom, lagIn, lagsAt, behindFrom, seatLagsAt, seatsBehind};
 ghost use Rattle.refusals.specs.First.{deskNumber, usedNumber};
 
-// Mail places and shelf slots, each.
-pub const PLACES: usize = 32;
-
 fn no_desk(book: &[u8], desk: usize) -> bool
-    requires { ⌜ length (now book) ≡ 1456 ⌝ }
+    requires { ⌜ length (now book) ≡ bookSize ⌝ }
     ensures { λ r. ⌜ r ≡ noDesk (setupOf (now (book .entry))) desk ⌝ }
 {
     !(desk < parts::desks_of(book))
@@ -31,58 +28,58 @@ fn at_limit(book: &[u8], desk: usize) -> bool
 
 // Whether a place or slot is below 32 and used; a is the record of the first.
 pub fn is_used(book: &[u8], a: usize, p: usize) -> bool
-    requires { ⌜ length (now book) ≡ 1456 ⌝ }
-    requires { ⌜ a ≤ 40 ⌝ }
+    requires { ⌜ length (now book) ≡ bookSize ⌝ }
+    requires { ⌜ a ≤ shelfFrom ⌝ }
     ensures { λ r. ⌜ r ≡ usedAt (now (book .entry)) a p ⌝ }
 {
-    if PLACES <= p {
+    if parts::PLACES <= p {
         return false;
     }
-    parts::tag_a(book, a + p) != 0
+    parts::tag_a(book, a + p) != parts::FREE
 }
 
 // The lowest free one of the 32 places or slots, 32 where there is none; a is the record of the first.
 pub fn free_from(book: &[u8], a: usize) -> usize
-    requires { ⌜ length (now book) ≡ 1456 ⌝ }
-    requires { ⌜ a ≤ 40 ⌝ }
+    requires { ⌜ length (now book) ≡ bookSize ⌝ }
+    requires { ⌜ a ≤ shelfFrom ⌝ }
     ensures { λ r. ⌜ r ≡ freeFrom (now (book .entry)) a ⌝ }
 {
     let mut p: usize = 0;
-    while p < PLACES {
+    while p < parts::PLACES {
         if !is_used(book, a, p) {
             return p;
         }
         p += 1;
     }
-    PLACES
+    parts::PLACES
 }
 
 fn full(book: &[u8], a: usize) -> bool
-    requires { ⌜ length (now book) ≡ 1456 ⌝ }
-    requires { ⌜ a ≤ 40 ⌝ }
-    ensures { λ r. ⌜ r ≡ not (ltb (freeFrom (now (book .entry)) a) 32) ⌝ }
+    requires { ⌜ length (now book) ≡ bookSize ⌝ }
+    requires { ⌜ a ≤ shelfFrom ⌝ }
+    ensures { λ r. ⌜ r ≡ not (ltb (freeFrom (now (book .entry)) a) places) ⌝ }
 {
-    !(free_from(book, a) < PLACES)
+    !(free_from(book, a) < parts::PLACES)
 }
 
 fn unstarted(book: &[u8], desk: usize) -> bool
     requires { ⌜ AtDesk (now book) desk ⌝ }
     ensures { λ r. ⌜ r ≡ not (tablesOf (now (book .entry)) .seat desk .started) ⌝ }
 {
-    parts::tag_a(book, desk) != 1
+    parts::tag_a(book, desk) != parts::STARTED
 }
 
 fn not_yours(book: &[u8], desk: usize, place: usize) -> bool
     requires { ⌜ AtDesk (now book) desk ⌝ }
-    requires { ⌜ (place < 32) × (usedAt (now book) 8 place ≡ true) ⌝ }
+    requires { ⌜ (place < places) × (usedAt (now book) mailFrom place ≡ true) ⌝ }
     ensures { λ r. ⌜ r ≡ not (eqb (toIn (tablesOf (now (book .entry)) .mail place)) desk) ⌝ }
 {
-    tools::wide(parts::tag_b(book, rows::MAIL + place)) != desk + 1
+    tools::wide(parts::tag_b(book, parts::MAIL + place)) != desk + 1
 }
 
 fn lag_at(book: &[u8], desk: usize, k: usize) -> usize
     requires { ⌜ AtDesk (now book) desk ⌝ }
-    requires { ⌜ k < 72 ⌝ }
+    requires { ⌜ k < records ⌝ }
     ensures { λ r. ⌜ r ≡ lagIn (now (book .entry)) desk k ⌝ }
 {
     tools::wide(ring::lag(
@@ -94,7 +91,7 @@ fn lag_at(book: &[u8], desk: usize, k: usize) -> usize
 
 fn seat_lags(book: &[u8], desk: usize, k: usize) -> bool
     requires { ⌜ AtDesk (now book) desk ⌝ }
-    requires { ⌜ k < 8 ⌝ }
+    requires { ⌜ k < seats ⌝ }
     ensures { λ r. ⌜ r ≡ seatLagsAt (now (book .entry)) desk k ⌝ }
 {
     (k != desk) & (lag_at(book, desk, k) == tools::wide(parts::seat_lag_of(book)))
@@ -118,7 +115,7 @@ fn seats_behind(book: &[u8], desk: usize) -> bool
 // A free one lags nowhere, whatever its bytes.
 fn lags_at(book: &[u8], desk: usize, bound: usize, a: usize, p: usize) -> bool
     requires { ⌜ AtDesk (now book) desk ⌝ }
-    requires { ⌜ (a ≤ 40) × (p < 32) ⌝ }
+    requires { ⌜ (a ≤ shelfFrom) × (p < places) ⌝ }
     ensures { λ r. ⌜ r ≡ lagsAt (now (book .entry)) desk bound a p ⌝ }
 {
     is_used(book, a, p) & (lag_at(book, desk, a + p) == bound)
@@ -126,11 +123,11 @@ fn lags_at(book: &[u8], desk: usize, bound: usize, a: usize, p: usize) -> bool
 
 fn behind_from(book: &[u8], desk: usize, bound: usize, a: usize) -> bool
     requires { ⌜ AtDesk (now book) desk ⌝ }
-    requires { ⌜ a ≤ 40 ⌝ }
+    requires { ⌜ a ≤ shelfFrom ⌝ }
     ensures { λ r. ⌜ r ≡ behindFrom (now (book .entry)) desk bound a ⌝ }
 {
     let mut p: usize = 0;
-    while p < PLACES {
+    while p < parts::PLACES {
         if lags_at(book, desk, bound, a, p) {
             return true;
         }
@@ -142,21 +139,21 @@ fn behind_from(book: &[u8], desk: usize, bound: usize, a: usize) -> bool
 // Mail may lag 2M, a kept stamp A: at that bound one more reset would bring it back as new.
 fn mail_behind(book: &[u8], desk: usize) -> bool
     requires { ⌜ AtDesk (now book) desk ⌝ }
-    ensures { λ r. ⌜ r ≡ behindFrom (now (book .entry)) desk (2 * setupOf (now (book .entry)) .seatLag) 8 ⌝ }
+    ensures { λ r. ⌜ r ≡ behindFrom (now (book .entry)) desk (2 * setupOf (now (book .entry)) .seatLag) mailFrom ⌝ }
 {
     behind_from(
         book,
         desk,
         2 * tools::wide(parts::seat_lag_of(book)),
-        rows::MAIL,
+        parts::MAIL,
     )
 }
 
 fn shelf_behind(book: &[u8], desk: usize) -> bool
     requires { ⌜ AtDesk (now book) desk ⌝ }
-    ensures { λ r. ⌜ r ≡ behindFrom (now (book .entry)) desk (setupOf (now (book .entry)) .shelfLag) 40 ⌝ }
+    ensures { λ r. ⌜ r ≡ behindFrom (now (book .entry)) desk (setupOf (now (book .entry)) .shelfLag) shelfFrom ⌝ }
 {
-    behind_from(book, desk, parts::shelf_lag_of(book), rows::SHELF)
+    behind_from(book, desk, parts::shelf_lag_of(book), parts::SHELF)
 }
 
 // What local, receive, reset and keep ask first.
@@ -202,7 +199,7 @@ pub fn send_number(book: &[u8], desk: usize, to: usize) -> u8
     if at_limit(book, desk) {
         return rules::PHASE_FULL;
     }
-    if full(book, rows::MAIL) {
+    if full(book, parts::MAIL) {
         return rules::MAIL_FULL;
     }
     rules::DONE
@@ -216,7 +213,7 @@ pub fn receive_number(book: &[u8], desk: usize, place: usize) -> u8
     if n != rules::DONE {
         return n;
     }
-    if !is_used(book, rows::MAIL, place) {
+    if !is_used(book, parts::MAIL, place) {
         return rules::NO_PLACE;
     }
     if not_yours(book, desk, place) {
@@ -259,7 +256,7 @@ pub fn keep_number(book: &[u8], desk: usize) -> u8
     if unstarted(book, desk) {
         return rules::NO_EVENT;
     }
-    if full(book, rows::SHELF) {
+    if full(book, parts::SHELF) {
         return rules::SHELF_FULL;
     }
     rules::DONE
@@ -267,7 +264,7 @@ pub fn keep_number(book: &[u8], desk: usize) -> u8
 
 // Drop and discard: BadBook, NoPlace or 0; a is the record of the first slot or place.
 pub fn used_number(book: &[u8], a: usize, p: usize) -> u8
-    requires { ⌜ a ≤ 40 ⌝ }
+    requires { ⌜ a ≤ shelfFrom ⌝ }
     ensures { λ r. ⌜ r ≡ usedNumber (now (book .entry)) a p ⌝ }
 {
     if !soundness::sound(book) {

@@ -14,7 +14,7 @@ use Rattle.ring.specs.Phases.{Pair, later}
 use Rattle.rules.specs.Model.{Row, own, rowIn, tick, turn}
 use Rattle.rules.specs.Calls.{ringOf}
 use Rattle.rules.specs.Replies.{rowByte, rowBytes}
-use Rattle.book.specs.Layout.{setupOf, rowAt}
+use Rattle.book.specs.Layout.{phaseSpot, clockSpot, mailFrom, setupOf, rowAt}
 use Rattle.book.specs.Sound.{sound}
 use Rattle.book.specs.Numbers.{tablesOf}
 use Rattle.rules.proofs.RowBytes.{row-phase, row-clock, rows-alike}
@@ -35,14 +35,15 @@ grows s j h l m =
     record { at = a; clock = omega (arith, e, room s h) }
 
 -- the next desk's pair of a row that is filled desk by desk
-pub filled-pair : (r : Row) (k : ℕ) (row : List ℕ) (x y : ℕ) → Filled 16 (2 * k) (rowByte r) row → k < 8
-    → x ≡ r k .phase → y ≡ r k .clock → Filled 16 (2 * (k + 1)) (rowByte r) (set (set row (2 * k) x) (2 * k + 1) y)
-filled-pair r k row x y h l ex ey =
-    let a : 1 + 2 * k ≡ 2 * k + 1 = omega arith in
+pub filled-pair : (r : Row) (k a b : ℕ) (row : List ℕ) (x y : ℕ) → Filled 16 (2 * k) (rowByte r) row → k < 8
+    → a ≡ phaseSpot k → b ≡ clockSpot k → x ≡ r k .phase → y ≡ r k .clock
+    → Filled 16 (2 * (k + 1)) (rowByte r) (set (set row a x) b y)
+filled-pair r k a b row x y h l ea eb ex ey =
+    let c : 1 + 2 * k ≡ 2 * k + 1 = omega arith in
     let e : 2 * k + 1 + 1 ≡ 2 * (k + 1) = omega arith in
-    rw e at (filled-more 16 (2 * k + 1) (rowByte r) (set row (2 * k) x) y
+    rw (ea, eb ∙ c) (rw e at (filled-more 16 (2 * k + 1) (rowByte r) (set row (2 * k) x) y
     (filled-more 16 (2 * k) (rowByte r) row x h (omega arith) (ex ∙ sym (row-phase r k))) (omega arith)
-    (ey ∙ sym (row-clock r k) ∙ ap (rowByte r) a))
+    (ey ∙ sym (row-clock r k) ∙ ap (rowByte r) c)))
 
 -- desk j's own pair is set in a row that is r for eight desks
 put-alike : (r t : Row) (j : ℕ) (q u : Pair) → q ≡ u → ((k : ℕ) → k < 8 → r k ≡ t k) → rowBytes (put r j q) ≡ rowBytes (put t j u)
@@ -68,10 +69,10 @@ module _ (s : List ℕ) (j : ℕ) (l : j < 8) where
 
   -- p a mail place
   pub merged-bytes : sound s ≡ true → (p : ℕ) → p < 32
-      → withPair (rowBytes (laterRow s j (8 + p))) j (tick (rowAt s j j)) ≡ rowBytes (mergedRow s j p)
+      → withPair (rowBytes (laterRow s j (mailFrom + p))) j (tick (rowAt s j j)) ≡ rowBytes (mergedRow s j p)
   merged-bytes h p lp =
-      set-pair (laterRow s j (8 + p)) j l (tick (rowAt s j j))
-      ∙ put-alike (laterRow s j (8 + p))
+      set-pair (laterRow s j (mailFrom + p)) j l (tick (rowAt s j j))
+      ∙ put-alike (laterRow s j (mailFrom + p))
       (λ k. later (ringOf (setupOf s)) (own (tablesOf s) k .phase) (tablesOf s .seat j .row k) (rowIn (tablesOf s .mail p) k)) j
       (tick (rowAt s j j)) (tick (own (tablesOf s) j)) (ap tick (sym (own-at s j l)))
       (λ k m.

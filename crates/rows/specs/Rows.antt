@@ -15,14 +15,14 @@ use Rattle.tools.specs.Tests.{pick}
 use Rattle.ring.specs.Phases.{Pair, isLater}
 use Rattle.rules.specs.Model.{Row, rowIn, grown, turned, merged}
 use Rattle.rules.specs.Calls.{ringOf}
-use Rattle.book.specs.Layout.{setupOf, rowAt}
+use Rattle.book.specs.Layout.{bookSize, phaseSpot, clockSpot, seats, setupOf, rowAt}
 use Rattle.book.specs.Sound.{sound}
 use Rattle.book.specs.Numbers.{tablesOf}
 
 pub record AtDesk (s : List ℕ) (j : ℕ) : Type 0 where
   pub whole : sound s ≡ true
-  pub size : length s ≡ 1456
-  pub eight : j < 8
+  pub size : length s ≡ bookSize
+  pub eight : j < seats
 
 pub record Grows (s : List ℕ) (j : ℕ) : Type 0 where
   pub at : AtDesk s j
@@ -35,7 +35,7 @@ abbrev pub laterRow : List ℕ → ℕ → ℕ → Row
 laterRow s d m k = pick (isLaterAt s d m k) (rowAt s m k) (rowAt s d k)
 
 abbrev pub withPair : List ℕ → ℕ → Pair → List ℕ
-withPair row j q = set (set row (2 * j) (q .phase)) (1 + 2 * j) (q .clock)
+withPair row j q = set (set row (phaseSpot j) (q .phase)) (clockSpot j) (q .clock)
 
 abbrev pub grownRow : List ℕ → ℕ → Row
 grownRow s j = grown (tablesOf s) j

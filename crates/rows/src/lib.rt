@@ -5,118 +5,112 @@ ghost use Prim.Native.Nat.{_<_};
 ghost use lib.ListN.{length};
 ghost use Rattle.rules.specs.Model.{tick};
 ghost use Rattle.rules.specs.Replies.{rowBytes};
-ghost use Rattle.book.specs.Layout.{rowAt};
+ghost use Rattle.book.specs.Layout.{bookSize, records, seats, places, rowAt};
 ghost use Rattle.book.specs.Sound.{sound};
 ghost use Rattle.rows.specs.Rows.{AtDesk, Grows, isLaterAt, laterRow, withPair, grownRow, turnedRow, mergedRow};
 
-// The record of mail place 0; the 32 places stand one after the other.
-pub const MAIL: usize = 8;
-
-// The record of shelf slot 0.
-pub const SHELF: usize = 40;
-
 // The row of a record.
 pub fn row_array(book: &[u8], k: usize) -> [u8; 16]
-    requires { ⌜ length (now book) ≡ 1456 ⌝ }
-    requires { ⌜ k < 72 ⌝ }
+    requires { ⌜ length (now book) ≡ bookSize ⌝ }
+    requires { ⌜ k < records ⌝ }
     ensures { λ r. ⌜ r ≡ rowBytes (rowAt (now (book .entry)) k) ⌝ }
 {
-    tools::sixteen(book, 16 + 20 * k + 4)
+    tools::sixteen(book, parts::spot(k, parts::ROW))
 }
 
-fn with_pair(row: [u8; 16], j: usize, phase: u8, clock: u8) -> [u8; 16]
-    requires { ⌜ j < 8 ⌝ }
-    ensures { λ r. ⌜ r ≡ withPair row j (record { phase = phase; clock = clock }) ⌝ }
+fn with_pair(row: [u8; 16], desk: usize, phase: u8, clock: u8) -> [u8; 16]
+    requires { ⌜ desk < seats ⌝ }
+    ensures { λ r. ⌜ r ≡ withPair row desk (record { phase = phase; clock = clock }) ⌝ }
 {
     let mut next = row;
-    next[2 * j] = phase;
-    next[1 + 2 * j] = clock;
+    next[parts::phase_spot(desk)] = phase;
+    next[parts::clock_spot(desk)] = clock;
     next
 }
 
 // The own pair comes from the desk's own seat, whatever the row says of it.
-fn ticked(book: &[u8], j: usize, row: [u8; 16]) -> [u8; 16]
-    requires { ⌜ Grows (now book) j ⌝ }
-    ensures { λ r. ⌜ r ≡ withPair row j (tick (rowAt (now (book .entry)) j j)) ⌝ }
+fn ticked(book: &[u8], desk: usize, row: [u8; 16]) -> [u8; 16]
+    requires { ⌜ Grows (now book) desk ⌝ }
+    ensures { λ r. ⌜ r ≡ withPair row desk (tick (rowAt (now (book .entry)) desk desk)) ⌝ }
 {
     with_pair(
         row,
-        j,
-        parts::phase_at(book, j, j),
-        parts::clock_at(book, j, j) + 1,
+        desk,
+        parts::phase_at(book, desk, desk),
+        parts::clock_at(book, desk, desk) + 1,
     )
 }
 
-// The row of desk j after local or send: its own clock grows by 1.
-pub fn grown_row(book: &[u8], j: usize) -> [u8; 16]
-    requires { ⌜ Grows (now book) j ⌝ }
-    ensures { λ r. ⌜ r ≡ rowBytes (grownRow (now (book .entry)) j) ⌝ }
+// The row of a desk after local or send: its own clock grows by 1.
+pub fn grown_row(book: &[u8], desk: usize) -> [u8; 16]
+    requires { ⌜ Grows (now book) desk ⌝ }
+    ensures { λ r. ⌜ r ≡ rowBytes (grownRow (now (book .entry)) desk) ⌝ }
 {
-    ticked(book, j, row_array(book, j))
+    ticked(book, desk, row_array(book, desk))
 }
 
-// The row of desk j after reset: its own phase grows by 1 modulo P and its own clock becomes 0.
-pub fn turned_row(book: &[u8], j: usize) -> [u8; 16]
-    requires { ⌜ AtDesk (now book) j ⌝ }
-    ensures { λ r. ⌜ r ≡ rowBytes (turnedRow (now (book .entry)) j) ⌝ }
+// The row of a desk after reset: its own phase grows by 1 modulo P and its own clock becomes 0.
+pub fn turned_row(book: &[u8], desk: usize) -> [u8; 16]
+    requires { ⌜ AtDesk (now book) desk ⌝ }
+    ensures { λ r. ⌜ r ≡ rowBytes (turnedRow (now (book .entry)) desk) ⌝ }
 {
     with_pair(
-        row_array(book, j),
-        j,
-        ring::next(parts::phase_at(book, j, j), parts::phases_of(book)),
+        row_array(book, desk),
+        desk,
+        ring::next(parts::phase_at(book, desk, desk), parts::phases_of(book)),
         0,
     )
 }
 
-// Each desk's own phase is fetched once: both lags are behind it.
-fn is_later(book: &[u8], d: usize, m: usize, k: usize) -> bool
-    requires { ⌜ (length (now book) ≡ 1456) × (sound (now book) ≡ true) ⌝ }
-    requires { ⌜ (d < 72) × (m < 72) × (k < 8) ⌝ }
-    ensures { λ r. ⌜ r ≡ isLaterAt (now (book .entry)) d m k ⌝ }
+// Whether the mailed record's pair for a desk is later than the held one's. The desk's own phase is fetched once: both lags are behind it.
+fn is_later(book: &[u8], held: usize, mailed: usize, desk: usize) -> bool
+    requires { ⌜ (length (now book) ≡ bookSize) × (sound (now book) ≡ true) ⌝ }
+    requires { ⌜ (held < records) × (mailed < records) × (desk < seats) ⌝ }
+    ensures { λ r. ⌜ r ≡ isLaterAt (now (book .entry)) held mailed desk ⌝ }
 {
-    let own = parts::phase_at(book, k, k);
-    let p = parts::phases_of(book);
-    let held = parts::phase_at(book, d, k);
-    let sent = parts::phase_at(book, m, k);
-    let up = ring::lag(own, held, p);
-    let down = ring::lag(own, sent, p);
-    let t = parts::clock_at(book, d, k);
-    let u = parts::clock_at(book, m, k);
-    ring::later_by(up, down, t, u)
+    let own = parts::phase_at(book, desk, desk);
+    let phases = parts::phases_of(book);
+    let old = parts::phase_at(book, held, desk);
+    let new = parts::phase_at(book, mailed, desk);
+    let up = ring::lag(own, old, phases);
+    let down = ring::lag(own, new, phases);
+    let from = parts::clock_at(book, held, desk);
+    let to = parts::clock_at(book, mailed, desk);
+    ring::later_by(up, down, from, to)
 }
 
-fn later_of(book: &[u8], d: usize, m: usize, k: usize) -> usize
-    requires { ⌜ (length (now book) ≡ 1456) × (sound (now book) ≡ true) ⌝ }
-    requires { ⌜ (d < 72) × (m < 72) × (k < 8) ⌝ }
-    ensures { λ r. ⌜ (r < 72) × (rowAt (now (book .entry)) r k ≡ laterRow (now (book .entry)) d m k) ⌝ }
+fn later_of(book: &[u8], held: usize, mailed: usize, desk: usize) -> usize
+    requires { ⌜ (length (now book) ≡ bookSize) × (sound (now book) ≡ true) ⌝ }
+    requires { ⌜ (held < records) × (mailed < records) × (desk < seats) ⌝ }
+    ensures { λ r. ⌜ (r < records) × (rowAt (now (book .entry)) r desk ≡ laterRow (now (book .entry)) held mailed desk) ⌝ }
 {
-    if is_later(book, d, m, k) {
-        return m;
+    if is_later(book, held, mailed, desk) {
+        return mailed;
     }
-    d
+    held
 }
 
-fn later_row(book: &[u8], d: usize, m: usize) -> [u8; 16]
-    requires { ⌜ (length (now book) ≡ 1456) × (sound (now book) ≡ true) ⌝ }
-    requires { ⌜ (d < 72) × (m < 72) ⌝ }
-    ensures { λ r. ⌜ r ≡ rowBytes (laterRow (now (book .entry)) d m) ⌝ }
+fn later_row(book: &[u8], held: usize, mailed: usize) -> [u8; 16]
+    requires { ⌜ (length (now book) ≡ bookSize) × (sound (now book) ≡ true) ⌝ }
+    requires { ⌜ (held < records) × (mailed < records) ⌝ }
+    ensures { λ r. ⌜ r ≡ rowBytes (laterRow (now (book .entry)) held mailed) ⌝ }
 {
     let mut row = [0u8; 16];
-    let mut k: usize = 0;
-    while k < 8 {
-        let from = later_of(book, d, m, k);
-        row[2 * k] = parts::phase_at(book, from, k);
-        row[2 * k + 1] = parts::clock_at(book, from, k);
-        k += 1;
+    let mut desk: usize = 0;
+    while desk < parts::SEATS {
+        let from = later_of(book, held, mailed, desk);
+        row[parts::phase_spot(desk)] = parts::phase_at(book, from, desk);
+        row[parts::clock_spot(desk)] = parts::clock_at(book, from, desk);
+        desk += 1;
     }
     row
 }
 
-// The row of desk j after receive from a mail place: its own clock grows by 1; for every other desk, the later of the two pairs.
-pub fn merged_row(book: &[u8], j: usize, place: usize) -> [u8; 16]
-    requires { ⌜ Grows (now book) j ⌝ }
-    requires { ⌜ place < 32 ⌝ }
-    ensures { λ r. ⌜ r ≡ rowBytes (mergedRow (now (book .entry)) j place) ⌝ }
+// The row of a desk after receive from a mail place: its own clock grows by 1; for every other desk, the later of the two pairs.
+pub fn merged_row(book: &[u8], desk: usize, place: usize) -> [u8; 16]
+    requires { ⌜ Grows (now book) desk ⌝ }
+    requires { ⌜ place < places ⌝ }
+    ensures { λ r. ⌜ r ≡ rowBytes (mergedRow (now (book .entry)) desk place) ⌝ }
 {
-    ticked(book, j, later_row(book, j, MAIL + place))
+    ticked(book, desk, later_row(book, desk, parts::MAIL + place))
 }

@@ -17,10 +17,10 @@ use Rattle.ring.proofs.Ring.{lag-below, lag-down, lag-round}
 use Rattle.tools.specs.Tests.{pick, allOf, allBelow}
 use Rattle.tools.specs.Lists.{byte}
 use Rattle.tools.proofs.Tests.{lt-or-le, alike, each, all-at, all-in}
-use Rattle.book.specs.Layout.{fields, setupOf, spot}
+use Rattle.book.specs.Layout.{tagASpot, tagBSpot, records, shelfFrom, rowSpot, phaseSpot, clockSpot, fields, setupOf, spot}
 use Rattle.book.specs.Sound.{pairOk, columnOk, rowOk, columnZero, rowZero}
 use Rattle.book.specs.Sound.{seatRest, seatNear, seatOk, mailOk, slotOk, recordOk, recordSound}
-use Rattle.soundness.specs.Checks.{countOf, Limits, ownOk, Ready}
+use Rattle.soundness.specs.Checks.{countOf, phasesFrom, ownFrom, clocksFrom, phasesIn, ownIn, clocksIn, Limits, ownOk, Ready}
 
 -- one test more
 pub and-more : (p : ℕ → Bool) (n : ℕ) (ok t : Bool) → ok ≡ allBelow n p → t ≡ p n → (ok && t) ≡ allBelow (n + 1) p
@@ -75,52 +75,57 @@ limits-none b l e = record { size = e; phases = below-none _; own = below-none _
 
 module _ (b l : List ℕ) (c x y z : ℕ) (h : Limits b c l) (q : c < 8) where
   abbrev one : List ℕ
-  one = set l c x
+  one = set l (phasesFrom + c) x
 
   abbrev two : List ℕ
-  two = set one (8 + c) y
+  two = set one (ownFrom + c) y
 
-  kept : (i : ℕ) → (i ≡ c → ⊥) → (i ≡ 8 + c → ⊥) → (i ≡ 16 + c → ⊥) → byte (set two (16 + c) z) i ≡ byte l i
-  kept i n m o = getD-set-other two (16 + c) i z 0 o ∙ getD-set-other one (8 + c) i y 0 m ∙ getD-set-other l c i x 0 n
+  kept : (i : ℕ) → (i ≡ phasesFrom + c → ⊥) → (i ≡ ownFrom + c → ⊥) → (i ≡ clocksFrom + c → ⊥)
+      → byte (set two (clocksFrom + c) z) i ≡ byte l i
+  kept i n m o =
+      getD-set-other two (clocksFrom + c) i z 0 o ∙ getD-set-other one (ownFrom + c) i y 0 m
+      ∙ getD-set-other l (phasesFrom + c) i x 0 n
 
   pub limits-more : x ≡ countOf (setupOf b .desks) (setupOf b .phases) c → y ≡ fields b .at c .row c .phase
       → z ≡ countOf (setupOf b .desks) (setupOf b .clocks) c
-      → Limits b (c + 1) (set two (16 + c) z)
+      → Limits b (c + 1) (set two (clocksFrom + c) z)
   limits-more e f g =
       record {
         size = simp length-set (h .size);
         phases =
-            below-more _ c (λ i r. kept i (omega arith) (omega arith) (omega arith) ∙ h .phases i r)
-            (getD-set-other two (16 + c) c z 0 (omega arith) ∙ getD-set-other one (8 + c) c y 0 (omega arith)
-            ∙ getD-set-same l c x 0 (omega (arith, h .size)) ∙ e);
+            below-more _ c (λ i r. kept (phasesFrom + i) (omega arith) (omega arith) (omega arith) ∙ h .phases i r)
+            (getD-set-other two (clocksFrom + c) (phasesFrom + c) z 0 (omega arith)
+            ∙ getD-set-other one (ownFrom + c) (phasesFrom + c) y 0 (omega arith)
+            ∙ getD-set-same l (phasesFrom + c) x 0 (omega (arith, h .size)) ∙ e);
         own =
-            below-more _ c (λ i r. kept (8 + i) (omega arith) (omega arith) (omega arith) ∙ h .own i r)
-            (getD-set-other two (16 + c) (8 + c) z 0 (omega arith)
-            ∙ getD-set-same one (8 + c) y 0 (simp length-set (omega (arith, h .size))) ∙ f);
+            below-more _ c (λ i r. kept (ownFrom + i) (omega arith) (omega arith) (omega arith) ∙ h .own i r)
+            (getD-set-other two (clocksFrom + c) (ownFrom + c) z 0 (omega arith)
+            ∙ getD-set-same one (ownFrom + c) y 0 (simp length-set (omega (arith, h .size))) ∙ f);
         clocks =
-            below-more _ c (λ i r. kept (16 + i) (omega arith) (omega arith) (omega arith) ∙ h .clocks i r)
-            (getD-set-same two (16 + c) z 0 (simp length-set (omega (arith, h .size))) ∙ g);
+            below-more _ c (λ i r. kept (clocksFrom + i) (omega arith) (omega arith) (omega arith) ∙ h .clocks i r)
+            (getD-set-same two (clocksFrom + c) z 0 (simp length-set (omega (arith, h .size))) ∙ g);
       }
 
 -- a pair against what its desk is held to, as the definition has it
 column-at : (b : List ℕ) (B k j : ℕ)
     → allOf
-    (ltb (byte b (spot k (4 + 2 * j))) (countOf (setupOf b .desks) (setupOf b .phases) j)
-    ∷ ltb (byte b (spot k (5 + 2 * j))) (countOf (setupOf b .desks) (setupOf b .clocks) j)
-    ∷ leb (lagOf (countOf (setupOf b .desks) (setupOf b .phases) j) (byte b (spot j (4 + 2 * j))) (byte b (spot k (4 + 2 * j)))) B
+    (ltb (byte b (spot k (rowSpot + phaseSpot j))) (countOf (setupOf b .desks) (setupOf b .phases) j)
+    ∷ ltb (byte b (spot k (rowSpot + clockSpot j))) (countOf (setupOf b .desks) (setupOf b .clocks) j)
+    ∷ leb (lagOf (countOf (setupOf b .desks) (setupOf b .phases) j) (byte b (spot j (rowSpot + phaseSpot j)))
+    (byte b (spot k (rowSpot + phaseSpot j)))) B
     ∷ [])
     ≡ columnOk (fields b) B k j
 unfolding columnOk pairOk countOf allOf
 column-at b B k j = go (ltb j (byte b 2)) refl
   where
     v : ℕ
-    v = byte b (spot k (4 + 2 * j))
+    v = byte b (spot k (rowSpot + phaseSpot j))
 
     t : ℕ
-    t = byte b (spot k (5 + 2 * j))
+    t = byte b (spot k (rowSpot + clockSpot j))
 
     own : ℕ
-    own = byte b (spot j (4 + 2 * j))
+    own = byte b (spot j (rowSpot + phaseSpot j))
 
     go : (u : Bool) → ltb j (byte b 2) ≡ u
         → (ltb v (pick u (byte b 3) 1) && (ltb t (pick u (byte b 4) 1) && leb (lagOf (pick u (byte b 3) 1) own v) B))
@@ -132,24 +137,24 @@ column-at b B k j = go (ltb j (byte b 2)) refl
         rw (y, below-one v, below-one t) (ap (λ s. eqb v 0 && s) (and-true (eqb t 0)))
 
 pub column-is : (b l : List ℕ) (B k j v t : ℕ) (r : Bool) → Ready b l → j < 8
-    → v ≡ byte b (spot k (4 + 2 * j)) → t ≡ byte b (spot k (5 + 2 * j))
-    → r ≡ allOf (ltb v (byte l j) ∷ ltb t (byte l (16 + j)) ∷ leb (lagOf (byte l j) (byte l (8 + j)) v) B ∷ [])
+    → v ≡ byte b (spot k (rowSpot + phaseSpot j)) → t ≡ byte b (spot k (rowSpot + clockSpot j))
+    → r ≡ allOf (ltb v (phasesIn l j) ∷ ltb t (clocksIn l j) ∷ leb (lagOf (phasesIn l j) (ownIn l j) v) B ∷ [])
     → r ≡ columnOk (fields b) B k j
 column-is b l B k j v t r h q x y z =
     rw (x, y, h .limits .phases j q, h .limits .clocks j q, h .limits .own j q) at z ∙ column-at b B k j
 
-pub own-below : (b l : List ℕ) (j : ℕ) → Ready b l → j < 8 → byte l (8 + j) < byte l j
+pub own-below : (b l : List ℕ) (j : ℕ) → Ready b l → j < 8 → ownIn l j < phasesIn l j
 unfolding ownOk
-own-below b l j r q = ltb-true _ _ (all-at (λ i. ltb (byte l (8 + i)) (byte l i)) 8 j q (r .own))
+own-below b l j r q = ltb-true _ _ (all-at (λ i. ltb (ownIn l i) (phasesIn l i)) 8 j q (r .own))
 
 -- a free place and a free slot are asked the same
-pub free-is : (b : List ℕ) (k : ℕ) → 8 ≤ k → byte b (spot k 2) ≡ 0
-    → (eqb (byte b (spot k 3)) 0 && rowZero (fields b) k) ≡ recordOk (fields b) k
+pub free-is : (b : List ℕ) (k : ℕ) → 8 ≤ k → byte b (spot k tagASpot) ≡ 0
+    → (eqb (byte b (spot k tagBSpot)) 0 && rowZero (fields b) k) ≡ recordOk (fields b) k
 unfolding recordOk mailOk slotOk allOf
-free-is b k l e = rw (recordOk, le-ltb k 8 l, mailOk, slotOk, eq-eqb (byte b (spot k 2)) 0 e) (go (ltb k 40))
+free-is b k l e = rw (recordOk, le-ltb k 8 l, mailOk, slotOk, eq-eqb (byte b (spot k tagASpot)) 0 e) (go (ltb k shelfFrom))
   where
-    go : (t : Bool) → (eqb (byte b (spot k 3)) 0 && rowZero (fields b) k)
-        ≡ pick t (eqb (byte b (spot k 3)) 0 && rowZero (fields b) k) (eqb (byte b (spot k 3)) 0 && rowZero (fields b) k)
+    go : (t : Bool) → (eqb (byte b (spot k tagBSpot)) 0 && rowZero (fields b) k)
+        ≡ pick t (eqb (byte b (spot k tagBSpot)) 0 && rowZero (fields b) k) (eqb (byte b (spot k tagBSpot)) 0 && rowZero (fields b) k)
     go true = refl
     go false = refl
 
@@ -161,7 +166,7 @@ module _ (b : List ℕ) (j : ℕ) (l : j < 8) (s : recordSound b j ≡ true) whe
 
   no-desk : setupOf b .desks ≤ j → rowZero (fields b) j ≡ true
   unfolding seatOk seatRest
-  no-desk d = go (eqb (byte b (spot j 2)) 0) (each _ seat 2)
+  no-desk d = go (eqb (byte b (spot j tagASpot)) 0) (each _ seat 2)
     where
       go : (t : Bool) → pick t (rowZero (fields b) j) (ltb j (setupOf b .desks)) ≡ true → rowZero (fields b) j ≡ true
       go true e = e
@@ -177,19 +182,19 @@ module _ (b : List ℕ) (j : ℕ) (l : j < 8) (s : recordSound b j ≡ true) whe
       rw (columnOk, pairOk, le-ltb j (setupOf b .desks) d) (all-at (columnZero (fields b) j) 8 j l (no-desk d)))
       (lt-or-le j (setupOf b .desks))
 
-  own-here : ltb (byte b (spot j (4 + 2 * j))) (countOf (setupOf b .desks) (setupOf b .phases) j) ≡ true
+  own-here : ltb (byte b (spot j (rowSpot + phaseSpot j))) (countOf (setupOf b .desks) (setupOf b .phases) j) ≡ true
   own-here = each _ (column-at b (setupOf b .seatLag) j j ∙ own-column) 0
 
 module _ (b l : List ℕ) (h : Limits b 8 l) where
-  own-sound : allBelow 72 (recordSound b) ≡ true → ownOk l ≡ true
+  own-sound : allBelow records (recordSound b) ≡ true → ownOk l ≡ true
   unfolding ownOk
   own-sound s =
-      all-in (λ j. ltb (byte l (8 + j)) (byte l j)) 8
-      (λ j q. rw (h .own j q, h .phases j q) (own-here b j q (all-at (recordSound b) 72 j (omega arith) s)))
+      all-in (λ j. ltb (ownIn l j) (phasesIn l j)) 8
+      (λ j q. rw (h .own j q, h .phases j q) (own-here b j q (all-at (recordSound b) records j (omega arith) s)))
 
-  pub own-off : ownOk l ≡ false → allBelow 72 (recordSound b) ≡ false
-  own-off e = go (allBelow 72 (recordSound b)) refl
+  pub own-off : ownOk l ≡ false → allBelow records (recordSound b) ≡ false
+  own-off e = go (allBelow records (recordSound b)) refl
     where
-      go : (t : Bool) → allBelow 72 (recordSound b) ≡ t → t ≡ false
+      go : (t : Bool) → allBelow records (recordSound b) ≡ t → t ≡ false
       go true f = absurd (true≢false (sym (own-sound f) ∙ e))
       go false f = refl

@@ -6,10 +6,20 @@ ghost use lib.Dec.{leb, ltb};
 ghost use lib.ListN.{length};
 ghost use Rattle.ring.specs.Phases.{lagOf};
 ghost use Rattle.tools.specs.Tests.{pick, allOf, allBelow};
-ghost use Rattle.book.specs.Layout.{fields};
+ghost use Rattle.book.specs.Layout.{bookSize, records, shelfFrom, mailFrom, seats, fields};
 ghost use Rattle.book.specs.Sound;
 ghost use Rattle.book.specs.Sound.{columnZero, rowOk, rowZero, seatRest, seatNear, recordOk, spareZero, headOk, recordSound};
 ghost use Rattle.soundness.specs.Checks.{countOf, Limits, ownOk, Ready, Used};
+
+// What the pairs of the desks are held to stands in one array, desk by desk in each of its three parts: first how many phases
+// each desk has.
+const PHASES: usize = 0;
+
+// Then each desk's own phase.
+const OWN: usize = 8;
+
+// Then how many clock values each has.
+const CLOCKS: usize = 16;
 
 // How many phases, or clock values, desk j has, of d desks with n each. Where there is no desk 0 alone is in range, so one.
 fn count_of(d: usize, n: u8, j: usize) -> u8
@@ -21,18 +31,17 @@ fn count_of(d: usize, n: u8, j: usize) -> u8
     1
 }
 
-// What the pairs of desk j are held to: how many phases it has at j, its own phase at 8 + j, how many clock values at 16 + j.
 fn limits_of(book: &[u8]) -> [u8; 24]
-    requires { ⌜ length (now book) ≡ 1456 ⌝ }
-    ensures { λ r. ⌜ Limits (now (book .entry)) 8 r ⌝ }
+    requires { ⌜ length (now book) ≡ bookSize ⌝ }
+    ensures { λ r. ⌜ Limits (now (book .entry)) seats r ⌝ }
 {
     let d = parts::desks_of(book);
     let mut limits = [0u8; 24];
     let mut j: usize = 0;
-    while j < 8 {
-        limits[j] = count_of(d, book[3], j);
-        limits[8 + j] = parts::phase_at(book, j, j);
-        limits[16 + j] = count_of(d, book[4], j);
+    while j < parts::SEATS {
+        limits[PHASES + j] = count_of(d, book[3], j);
+        limits[OWN + j] = parts::phase_at(book, j, j);
+        limits[CLOCKS + j] = count_of(d, book[4], j);
         j += 1;
     }
     limits
@@ -44,8 +53,8 @@ fn own_ok(limits: &[u8; 24]) -> bool
 {
     let mut ok = true;
     let mut j: usize = 0;
-    while j < 8 {
-        ok = ok & (limits[8 + j] < limits[j]);
+    while j < parts::SEATS {
+        ok = ok & (limits[OWN + j] < limits[PHASES + j]);
         j += 1;
     }
     ok
@@ -72,36 +81,44 @@ fn pair_ok(own: u8, p: u8, l: u8, bound: usize, v: u8, t: u8) -> bool
 // No pair ends the loop early: so all eight are compared at once. The limits are lent: a copy for each record would be waited for.
 fn row_ok(book: &[u8], limits: &[u8; 24], bound: usize, k: usize) -> bool
     requires { ⌜ Ready (now book) (now limits) ⌝ }
-    requires { ⌜ (k < 72) × (bound ≤ 510) ⌝ }
+    requires { ⌜ (k < records) × (bound ≤ 510) ⌝ }
     ensures { λ r. ⌜ r ≡ rowOk (fields (now (book .entry))) bound k ⌝ }
 {
     let mut ok = true;
     let mut j: usize = 0;
-    while j < 8 {
+    while j < parts::SEATS {
         let v = parts::phase_at(book, k, j);
         let t = parts::clock_at(book, k, j);
-        ok = ok & pair_ok(limits[8 + j], limits[j], limits[16 + j], bound, v, t);
+        ok = ok
+            & pair_ok(
+                limits[OWN + j],
+                limits[PHASES + j],
+                limits[CLOCKS + j],
+                bound,
+                v,
+                t,
+            );
         j += 1;
     }
     ok
 }
 
 fn column_zero(book: &[u8], k: usize, j: usize) -> bool
-    requires { ⌜ length (now book) ≡ 1456 ⌝ }
-    requires { ⌜ (k < 72) × (j < 8) ⌝ }
+    requires { ⌜ length (now book) ≡ bookSize ⌝ }
+    requires { ⌜ (k < records) × (j < seats) ⌝ }
     ensures { λ r. ⌜ r ≡ columnZero (fields (now (book .entry))) k j ⌝ }
 {
     (parts::phase_at(book, k, j) == 0) & (parts::clock_at(book, k, j) == 0)
 }
 
 fn row_zero(book: &[u8], k: usize) -> bool
-    requires { ⌜ length (now book) ≡ 1456 ⌝ }
-    requires { ⌜ k < 72 ⌝ }
+    requires { ⌜ length (now book) ≡ bookSize ⌝ }
+    requires { ⌜ k < records ⌝ }
     ensures { λ r. ⌜ r ≡ rowZero (fields (now (book .entry))) k ⌝ }
 {
     let mut ok = true;
     let mut j: usize = 0;
-    while j < 8 {
+    while j < parts::SEATS {
         ok = ok & column_zero(book, k, j);
         j += 1;
     }
@@ -109,11 +126,11 @@ fn row_zero(book: &[u8], k: usize) -> bool
 }
 
 fn seat_rest(book: &[u8], k: usize) -> bool
-    requires { ⌜ length (now book) ≡ 1456 ⌝ }
-    requires { ⌜ k < 72 ⌝ }
+    requires { ⌜ length (now book) ≡ bookSize ⌝ }
+    requires { ⌜ k < records ⌝ }
     ensures { λ r. ⌜ r ≡ seatRest (fields (now (book .entry))) k ⌝ }
 {
-    if parts::tag_a(book, k) == 0 {
+    if parts::tag_a(book, k) == parts::FREE {
         row_zero(book, k)
     } else {
         k < parts::desks_of(book)
@@ -122,7 +139,7 @@ fn seat_rest(book: &[u8], k: usize) -> bool
 
 fn seat_near(book: &[u8], limits: &[u8; 24], k: usize) -> bool
     requires { ⌜ Ready (now book) (now limits) ⌝ }
-    requires { ⌜ k < 72 ⌝ }
+    requires { ⌜ k < records ⌝ }
     ensures { λ r. ⌜ r ≡ seatNear (fields (now (book .entry))) k ⌝ }
 {
     if k < parts::desks_of(book) {
@@ -134,20 +151,21 @@ fn seat_near(book: &[u8], limits: &[u8; 24], k: usize) -> bool
 
 fn seat_ok(book: &[u8], limits: &[u8; 24], k: usize) -> bool
     requires { ⌜ Ready (now book) (now limits) ⌝ }
-    requires { ⌜ k < 8 ⌝ }
+    requires { ⌜ k < seats ⌝ }
     ensures { λ r. ⌜ r ≡ recordOk (fields (now (book .entry))) k ⌝ }
 {
-    (parts::tag_a(book, k) <= 1)
-        & ((parts::tag_b(book, k) == 0) & (seat_rest(book, k) & seat_near(book, limits, k)))
+    (parts::tag_a(book, k) <= parts::STARTED)
+        & ((parts::tag_b(book, k) == parts::FILLER)
+            & (seat_rest(book, k) & seat_near(book, limits, k)))
 }
 
 // A place or slot that is free. Its second tag is tested apart, so that its row is one compare of sixteen bytes.
 fn free_ok(book: &[u8], k: usize) -> bool
-    requires { ⌜ length (now book) ≡ 1456 ⌝ }
-    requires { ⌜ (8 ≤ k) × (k < 72) × (fields (now book) .at k .tagA ≡ 0) ⌝ }
+    requires { ⌜ length (now book) ≡ bookSize ⌝ }
+    requires { ⌜ (mailFrom ≤ k) × (k < records) × (fields (now book) .at k .tagA ≡ 0) ⌝ }
     ensures { λ r. ⌜ r ≡ recordOk (fields (now (book .entry))) k ⌝ }
 {
-    if parts::tag_b(book, k) != 0 {
+    if parts::tag_b(book, k) != parts::FILLER {
         return false;
     }
     row_zero(book, k)
@@ -155,7 +173,7 @@ fn free_ok(book: &[u8], k: usize) -> bool
 
 fn mail_ok(book: &[u8], limits: &[u8; 24], k: usize) -> bool
     requires { ⌜ Ready (now book) (now limits) ⌝ }
-    requires { ⌜ (8 ≤ k) × (k < 40) × Used (now book) k ⌝ }
+    requires { ⌜ (mailFrom ≤ k) × (k < shelfFrom) × Used (now book) k ⌝ }
     ensures { λ r. ⌜ r ≡ recordOk (fields (now (book .entry))) k ⌝ }
 {
     let a = parts::tag_a(book, k);
@@ -169,18 +187,18 @@ fn mail_ok(book: &[u8], limits: &[u8; 24], k: usize) -> bool
 
 fn slot_ok(book: &[u8], limits: &[u8; 24], k: usize) -> bool
     requires { ⌜ Ready (now book) (now limits) ⌝ }
-    requires { ⌜ (40 ≤ k) × (k < 72) × Used (now book) k ⌝ }
+    requires { ⌜ (shelfFrom ≤ k) × (k < records) × Used (now book) k ⌝ }
     ensures { λ r. ⌜ r ≡ recordOk (fields (now (book .entry))) k ⌝ }
 {
-    (parts::tag_b(book, k) == 0)
+    (parts::tag_b(book, k) == parts::FILLER)
         & ((tools::wide(parts::tag_a(book, k)) <= parts::desks_of(book))
             & row_ok(book, limits, parts::shelf_lag_of(book), k))
 }
 
 // Whether record k has its mark, and its contents are in order.
 fn marked(book: &[u8], k: usize, ok: bool) -> bool
-    requires { ⌜ length (now book) ≡ 1456 ⌝ }
-    requires { ⌜ (k < 72) × (ok ≡ recordOk (fields (now book)) k) ⌝ }
+    requires { ⌜ length (now book) ≡ bookSize ⌝ }
+    requires { ⌜ (k < records) × (ok ≡ recordOk (fields (now book)) k) ⌝ }
     ensures { λ r. ⌜ r ≡ recordSound (now (book .entry)) k ⌝ }
 {
     (parts::byte_at(book, k, 0) == parts::first_mark(k))
@@ -190,24 +208,24 @@ fn marked(book: &[u8], k: usize, ok: bool) -> bool
 // The mark is compared once the kind is known: so it is a constant.
 fn record_sound(book: &[u8], limits: &[u8; 24], k: usize) -> bool
     requires { ⌜ Ready (now book) (now limits) ⌝ }
-    requires { ⌜ k < 72 ⌝ }
+    requires { ⌜ k < records ⌝ }
     ensures { λ r. ⌜ r ≡ recordSound (now (book .entry)) k ⌝ }
 {
-    if k < 8 {
+    if k < parts::SEATS {
         return marked(book, k, seat_ok(book, limits, k));
     }
-    if parts::tag_a(book, k) == 0 {
+    if parts::tag_a(book, k) == parts::FREE {
         return marked(book, k, free_ok(book, k));
     }
-    if k < 40 {
+    if k < parts::SHELF {
         return marked(book, k, mail_ok(book, limits, k));
     }
     marked(book, k, slot_ok(book, limits, k))
 }
 
 fn records_sound(book: &[u8]) -> bool
-    requires { ⌜ length (now book) ≡ 1456 ⌝ }
-    ensures { λ r. ⌜ r ≡ allBelow 72 (recordSound (now (book .entry))) ⌝ }
+    requires { ⌜ length (now book) ≡ bookSize ⌝ }
+    ensures { λ r. ⌜ r ≡ allBelow records (recordSound (now (book .entry))) ⌝ }
 {
     let limits = limits_of(book);
     if !own_ok(&limits) {
@@ -215,7 +233,7 @@ fn records_sound(book: &[u8]) -> bool
     }
     let mut ok = true;
     let mut k: usize = 0;
-    while k < 72 {
+    while k < parts::RECORDS {
         ok = ok & record_sound(book, &limits, k);
         k += 1;
     }
@@ -223,7 +241,7 @@ fn records_sound(book: &[u8]) -> bool
 }
 
 fn spare_zero(book: &[u8]) -> bool
-    requires { ⌜ length (now book) ≡ 1456 ⌝ }
+    requires { ⌜ length (now book) ≡ bookSize ⌝ }
     ensures { λ r. ⌜ r ≡ allBelow 7 (spareZero (now (book .entry))) ⌝ }
 {
     let mut ok = true;
@@ -236,16 +254,16 @@ fn spare_zero(book: &[u8]) -> bool
 }
 
 fn head_ok(book: &[u8]) -> bool
-    requires { ⌜ length (now book) ≡ 1456 ⌝ }
+    requires { ⌜ length (now book) ≡ bookSize ⌝ }
     ensures { λ r. ⌜ r ≡ headOk (now (book .entry)) ⌝ }
 {
-    (book[0] == 0x42) & ((book[1] == 0x4B) & spare_zero(book))
+    (book[0] == parts::BOOK_MARK0) & ((book[1] == parts::BOOK_MARK1) & spare_zero(book))
 }
 
 pub fn sound(book: &[u8]) -> bool
     ensures { λ r. ⌜ r ≡ Sound.sound (now (book .entry)) ⌝ }
 {
-    if book.len() != 1456 {
+    if book.len() != parts::BOOK_BYTES {
         return false;
     }
     head_ok(book) & (rules::permits(parts::setup_of(book)) & records_sound(book))

@@ -6,6 +6,7 @@ use native.Mathlib.Omega.{arith}
 use lib.ListN.{length}
 use Rattle.book.proofs.Soundness.{sound-size}
 use Rattle.book.proofs.Told.{few-desks}
+use Rattle.book.specs.Layout.{bookSize}
 use Rattle.asking.proofs.Slots.{slot-place}
 use Rattle.asking.proofs.Accepted.{One, write-one, write-record}
 use borrow.Author.Needs.{needs}
@@ -19,7 +20,7 @@ one c = write-one _ _ _ (c .pre)
 below : (c : tie.Start) → c .args .slot < 32
 below c = slot-place (c .args .book .now) (c .args .slot) (one c .used)
 
-size : (c : tie.Start) → length (c .args .book .now) ≡ 1456
+size : (c : tie.Start) → length (c .args .book .now) ≡ bookSize
 size c = sound-size _ (one c .whole)
 
 add-row-array : tie.Need-add-row-array

@@ -7,7 +7,7 @@ use native.Mathlib.Omega.{arith}
 use Rattle.tools.specs.Lists.{byte}
 use Rattle.ring.specs.Phases.{lagOf}
 use Rattle.rules.specs.Model.{byIn}
-use Rattle.book.specs.Layout.{spot}
+use Rattle.book.specs.Layout.{records, shelfFrom, rowSpot, phaseSpot, spot}
 use Rattle.book.specs.Numbers.{tablesOf}
 use Rattle.book.proofs.Below.{phase-below}
 use Rattle.asking.proofs.Slots.{slot-place, slot-eight, way-lags}
@@ -17,8 +17,8 @@ use Rattle.asking.proofs.way_of.Tie as tie
 
 abbrev RingAt : List ℕ → ℕ → ℕ → ℕ → Type 0
 RingAt s j i k =
-    (byte s (spot j (4 + 2 * j)) < byte s 3) × (byte s (spot (40 + i) (4 + 2 * j)) < byte s 3) ×
-    (byte s (spot (40 + k) (4 + 2 * j)) < byte s 3)
+    (byte s (spot j (rowSpot + phaseSpot j)) < byte s 3) × (byte s (spot (shelfFrom + i) (rowSpot + phaseSpot j)) < byte s 3) ×
+    (byte s (spot (shelfFrom + k) (rowSpot + phaseSpot j)) < byte s 3)
 
 -- the owner of the first slot
 owner : (c : tie.After-wide)
@@ -41,8 +41,8 @@ abbrev entry : tie.After-wide → tie.Start
 entry c = c .before .before .before
 
 -- the phases are on the ring
-on-ring : (c : tie.After-wide) (k : ℕ) → k < 72
-    → byte (entry c .args .book .now) (spot k (4 + 2 * c .wide .result)) < byte (entry c .args .book .now) 3
+on-ring : (c : tie.After-wide) (k : ℕ) → k < records
+    → byte (entry c .args .book .now) (spot k (rowSpot + phaseSpot (c .wide .result))) < byte (entry c .args .book .now) 3
 on-ring c k l = phase-below _ (c .before .before .before .pre .0 .1) k _ l (eight c)
 
 all-on-ring : (c : tie.After-wide)
@@ -50,8 +50,11 @@ all-on-ring : (c : tie.After-wide)
 all-on-ring c =
     let a = entry c .args in
     let b = below c in
-    let e = eight c in
-    (on-ring c (c .wide .result) (omega arith), on-ring c (40 + a .first) (omega arith), on-ring c (40 + a .second) (omega arith))
+    let e = eight c in (
+      on-ring c (c .wide .result) (omega arith),
+      on-ring c (shelfFrom + a .first) (omega arith),
+      on-ring c (shelfFrom + a .second) (omega arith),
+    )
 
 add-e : tie.Need-add-e
 add-e c = omega (arith, below c)

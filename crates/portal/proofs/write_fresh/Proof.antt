@@ -5,15 +5,16 @@ use mathlib.Core.Path.{_≡_, sym, _∙_}
 use native.Mathlib.Omega.{arith}
 use borrow.Author.Needs.{needs}
 use Rattle.tools.specs.Lists.{byte}
+use Rattle.book.specs.Layout.{records}
 use Rattle.portal.proofs.Fresh.{Written, written-none, written-more, written-all}
 use Rattle.portal.proofs.write_fresh.Statement.{statement}
 use Rattle.portal.proofs.write_fresh.Tie as tie
 
 abbrev Inv-loop : tie.InvT-loop
-Inv-loop book₀ k₀ book k = (k ≤ 72) × Written (byte book₀) k book
+Inv-loop book₀ k₀ book k = (k ≤ records) × Written (byte book₀) k book
 
 abbrev μ-loop : tie.MeasureT-loop
-μ-loop book₀ k₀ book k = 72 - k
+μ-loop book₀ k₀ book k = records - k
 
 loop-holds : tie.Need-loop-holds Inv-loop μ-loop
 loop-holds c = (search needs, written-none _ (c .before .before .write-head .ensures .size))
@@ -32,7 +33,7 @@ same-length c = c .before .loop .inv .1 .size ∙ sym (c .before .before .before
 returns : tie.Need-returns Inv-loop μ-loop
 returns c =
     let h = c .before in
-    let e : h .loop .k ≡ 72 = omega arith in
+    let e : h .loop .k ≡ records = omega arith in
     written-all (h .before .before .before .before .before .before .args .s) _ (h .loop .book)
     (h .before .before .before .write-head .ensures) (rw e at (h .loop .inv .1))
 

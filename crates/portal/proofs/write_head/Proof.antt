@@ -9,12 +9,12 @@ use Rattle.portal.proofs.Fresh.{filled-from}
 use borrow.Author.Needs.{needs}
 use Rattle.tools.specs.Lists.{byte, Filled}
 use Rattle.tools.proofs.Lists.{filled-none, filled-more, tab-at}
-use Rattle.book.specs.Layout.{headByte}
+use Rattle.book.specs.Layout.{bookSize, headByte}
 use Rattle.portal.proofs.write_head.Statement.{statement}
 use Rattle.portal.proofs.write_head.Tie as tie
 
 abbrev Inv-loop : tie.InvT-loop
-Inv-loop book₀ head i₀ book i = (i ≤ 16) × Filled 1456 i (byte head) book
+Inv-loop book₀ head i₀ book i = (i ≤ 16) × Filled bookSize i (byte head) book
 
 abbrev μ-loop : tie.MeasureT-loop
 μ-loop book₀ head i₀ book i = 16 - i
@@ -23,13 +23,15 @@ head-of-requires : tie.Need-head-of-requires Inv-loop μ-loop
 head-of-requires c κs = c .before .pre .1
 
 loop-holds : tie.Need-loop-holds Inv-loop μ-loop
-loop-holds c = (search needs, filled-none 1456 _ _ (c .before .before .pre .0))
+loop-holds c = (search needs, filled-none bookSize _ _ (c .before .before .pre .0))
 
 slice-write-book : tie.Need-slice-write-book Inv-loop μ-loop
 slice-write-book c = omega (arith, c .before .loop .inv .1 .size)
 
 loop-again : tie.Need-loop-again Inv-loop μ-loop
-loop-again c = let h = c .before in (omega arith, filled-more 1456 (h .loop .i) _ (h .loop .book) _ (h .loop .inv .1) (omega arith) refl)
+loop-again c =
+    let h = c .before in
+    (omega arith, filled-more bookSize (h .loop .i) _ (h .loop .book) _ (h .loop .inv .1) (omega arith) refl)
 
 same-length : tie.Need-same-length Inv-loop μ-loop
 same-length c = c .before .loop .inv .1 .size ∙ sym (c .before .before .before .before .pre .0)
@@ -38,7 +40,7 @@ returns : tie.Need-returns Inv-loop μ-loop
 returns c =
     let h = c .before in
     let e : h .loop .i ≡ 16 = omega arith in
-    filled-from 1456 16 _ _ (h .loop .book) (rw e at (h .loop .inv .1))
+    filled-from bookSize 16 _ _ (h .loop .book) (rw e at (h .loop .inv .1))
     (λ i l. ap (λ (x : List ℕ). byte x i) (h .before .head-of .ensures) ∙ tab-at 16 (headByte (h .before .before .before .args .s)) i l)
 
 pub write-head-spec : {M : Type 1} → statement M

@@ -9,7 +9,7 @@ use Rattle.rows.proofs.grown_row.Tie as tie
 returns : tie.Need-returns
 returns c =
     let x = c .before .before .before in
-    c .ticked .ensures ∙ rw (c .before .row-array .ensures) (grown-bytes (x .args .book .now) (x .args .j) (x .pre .at .eight))
+    c .ticked .ensures ∙ rw (c .before .row-array .ensures) (grown-bytes (x .args .book .now) (x .args .desk) (x .pre .at .eight))
 
 pub grown-row-spec : {M : Type 1} → statement M
 grown-row-spec = tie.close (tie.spec (λ c κs. search needs) (λ c κs. search needs) returns)

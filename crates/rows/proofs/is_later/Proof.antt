@@ -3,7 +3,7 @@
 use Prim.Native.Nat.{ℕ, _+_, _*_, _<_}
 use native.Mathlib.Omega.{arith}
 use Rattle.tools.specs.Lists.{byte}
-use Rattle.book.specs.Layout.{spot}
+use Rattle.book.specs.Layout.{records, rowSpot, phaseSpot, spot}
 use Rattle.book.proofs.Below.{phase-below}
 use borrow.Author.Needs.{needs}
 use Rattle.rows.proofs.is_later.Statement.{statement}
@@ -11,13 +11,13 @@ use Rattle.rows.proofs.is_later.Tie as tie
 
 -- the phases that are compared are on the ring
 abbrev OnRing : tie.Start → ℕ → Type 0
-OnRing x i = byte (x .args .book .now) (spot i (4 + 2 * x .args .k)) < byte (x .args .book .now) 3
+OnRing x i = byte (x .args .book .now) (spot i (rowSpot + phaseSpot (x .args .desk))) < byte (x .args .book .now) 3
 
-below : (x : tie.Start) → OnRing x (x .args .k) × OnRing x (x .args .d) × OnRing x (x .args .m)
-below x = (at (x .args .k) (omega arith), at (x .args .d) (omega arith), at (x .args .m) (omega arith))
+below : (x : tie.Start) → OnRing x (x .args .desk) × OnRing x (x .args .held) × OnRing x (x .args .mailed)
+below x = (at (x .args .desk) (omega arith), at (x .args .held) (omega arith), at (x .args .mailed) (omega arith))
   where
-    at : (i : ℕ) → i < 72 → OnRing x i
-    at i l = phase-below (x .args .book .now) (x .pre .0 .1) i (x .args .k) l (omega arith)
+    at : (i : ℕ) → i < records → OnRing x i
+    at i l = phase-below (x .args .book .now) (x .pre .0 .1) i (x .args .desk) l (omega arith)
 
 lag-requires : tie.Need-lag-requires
 lag-requires c κs = omega (arith, below (c .before .before .before .before .before))

@@ -11,7 +11,7 @@ returns c =
     let x = c .before .before .before in
     c .ticked .ensures
     ∙ rw (c .before .later-row .ensures)
-    (merged-bytes (x .args .book .now) (x .args .j) (x .pre .0 .at .eight) (x .pre .0 .at .whole) (x .args .place) (x .pre .1))
+    (merged-bytes (x .args .book .now) (x .args .desk) (x .pre .0 .at .eight) (x .pre .0 .at .whole) (x .args .place) (x .pre .1))
 
 pub merged-row-spec : {M : Type 1} → statement M
 merged-row-spec =

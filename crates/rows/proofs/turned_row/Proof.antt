@@ -11,7 +11,7 @@ use Rattle.rows.proofs.turned_row.Tie as tie
 next-requires : tie.Need-next-requires
 next-requires c κs =
     let x = c .before .before .before .before in
-    omega (arith, phase-below (x .args .book .now) (x .pre .whole) (x .args .j) (x .args .j) (omega arith) (omega arith))
+    omega (arith, phase-below (x .args .book .now) (x .pre .whole) (x .args .desk) (x .args .desk) (omega arith) (omega arith))
 
 returns : tie.Need-returns
 returns c = let x = c .before .before .before .before .before .before in c .with-pair .ensures
@@ -21,7 +21,7 @@ returns c = let x = c .before .before .before .before .before .before in c .with
       c .before .before .phases-of .ensures,
       c .before .before .before .phase-at .ensures,
     )
-    (turned-bytes (x .args .book .now) (x .args .j) (x .pre .eight))
+    (turned-bytes (x .args .book .now) (x .args .desk) (x .pre .eight))
 
 pub turned-row-spec : {M : Type 1} → statement M
 turned-row-spec =

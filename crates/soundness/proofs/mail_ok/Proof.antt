@@ -5,6 +5,7 @@ use Rattle.tools.specs.Tests.{allOf}
 use native.Mathlib.Omega.{arith}
 use borrow.Author.Tests.{ne-eqb, lt-ltb, le-ltb}
 use borrow.Author.Needs.{needs}
+use Rattle.book.specs.Layout.{shelfFrom}
 use Rattle.soundness.proofs.mail_ok.Statement.{statement}
 use Rattle.soundness.proofs.mail_ok.Tie as tie
 
@@ -13,7 +14,7 @@ unfolding recordOk mailOk allOf
 returns c =
     let s = c .before .before .before .before .before .before .before .before .before in
     let w = c .before .before .before .before in
-    rw (recordOk, le-ltb (s .args .k) 8 (omega arith), lt-ltb (s .args .k) 40 (omega arith), mailOk, ne-eqb _ _ (s .pre .1 .2))
+    rw (recordOk, le-ltb (s .args .k) 8 (omega arith), lt-ltb (s .args .k) shelfFrom (omega arith), mailOk, ne-eqb _ _ (s .pre .1 .2))
     (rw (c .row-ok .ensures, c .before .wide3 .ensures, c .before .before .seat-lag-of .ensures, c .before .before .before .wide2 .ensures)
     (rw (w .wide .ensures, w .before .desks-of .ensures, w .before .before .tag-b .ensures, w .before .before .before .tag-a .ensures)))
 

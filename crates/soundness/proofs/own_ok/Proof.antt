@@ -1,19 +1,18 @@
 -- `soundness::own_ok` meets its contract.
 -- Assumes nothing.
-use Prim.Native.Nat.{_+_, _≤_, _-_}
+use Prim.Native.Nat.{_≤_, _-_}
 use mathlib.Core.Path.{_≡_, refl}
 use native.Mathlib.Omega.{arith}
 use borrow.Author.Needs.{needs}
 use Rattle.tools.specs.Tests.{allBelow}
 use Rattle.soundness.proofs.Checks.{all-start, and-more}
 use lib.Dec.{ltb}
-use Rattle.tools.specs.Lists.{byte}
-use Rattle.soundness.specs.Checks.{ownOk}
+use Rattle.soundness.specs.Checks.{phasesIn, ownIn, ownOk}
 use Rattle.soundness.proofs.own_ok.Statement.{statement}
 use Rattle.soundness.proofs.own_ok.Tie as tie
 
 abbrev Inv-loop : tie.InvT-loop
-Inv-loop limits ok₀ j₀ ok j = (j ≤ 8) × (ok ≡ allBelow j (λ i. ltb (byte limits (8 + i)) (byte limits i)))
+Inv-loop limits ok₀ j₀ ok j = (j ≤ 8) × (ok ≡ allBelow j (λ i. ltb (ownIn limits i) (phasesIn limits i)))
 
 abbrev μ-loop : tie.MeasureT-loop
 μ-loop limits ok₀ j₀ ok j = 8 - j
@@ -32,5 +31,5 @@ pub own-ok-spec : {M : Type 1} → statement M
 own-ok-spec =
     tie.close
     (tie.spec
-    Inv-loop μ-loop loop-holds (λ c. omega arith) (λ c. search needs) (λ c. search needs) (λ c. omega arith) (λ c. omega arith) loop-again
-    returns)
+    Inv-loop μ-loop loop-holds (λ c. omega arith) (λ c. search needs) (λ c. omega arith) (λ c. search needs) (λ c. omega arith)
+    (λ c. omega arith) loop-again returns)

@@ -7,15 +7,16 @@ use borrow.Author.Tests.{not-true, not-false}
 use borrow.Author.Needs.{needs}
 use Rattle.tools.specs.Tests.{allBelow}
 use Rattle.book.specs.Sound.{recordSound}
+use Rattle.book.specs.Layout.{records}
 use Rattle.soundness.proofs.Checks.{all-start, and-more, own-off}
 use Rattle.soundness.proofs.records_sound.Statement.{statement}
 use Rattle.soundness.proofs.records_sound.Tie as tie
 
 abbrev Inv-loop : tie.InvT-loop
-Inv-loop book limits ok₀ k₀ ok k = (k ≤ 72) × (ok ≡ allBelow k (recordSound book))
+Inv-loop book limits ok₀ k₀ ok k = (k ≤ records) × (ok ≡ allBelow k (recordSound book))
 
 abbrev μ-loop : tie.MeasureT-loop
-μ-loop book limits ok₀ k₀ ok k = 72 - k
+μ-loop book limits ok₀ k₀ ok k = records - k
 
 returns : tie.Need-returns Inv-loop μ-loop
 returns c =
@@ -42,7 +43,7 @@ loop-again c =
     (omega arith, and-more _ (h .k) _ _ (h .inv .1) (c .record-sound .ensures))
 
 returns-2 : tie.Need-returns-2 Inv-loop μ-loop
-returns-2 c = let h = c .before .loop in let e : h .k ≡ 72 = omega arith in rw e at (h .inv .1)
+returns-2 c = let h = c .before .loop in let e : h .k ≡ records = omega arith in rw e at (h .inv .1)
 
 pub records-sound-spec : {M : Type 1} → statement M
 records-sound-spec =

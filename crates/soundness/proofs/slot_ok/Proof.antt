@@ -5,6 +5,7 @@ use Rattle.tools.specs.Tests.{allOf}
 use native.Mathlib.Omega.{arith}
 use borrow.Author.Tests.{ne-eqb, le-ltb}
 use borrow.Author.Needs.{needs}
+use Rattle.book.specs.Layout.{shelfFrom}
 use Rattle.soundness.proofs.slot_ok.Statement.{statement}
 use Rattle.soundness.proofs.slot_ok.Tie as tie
 
@@ -16,7 +17,7 @@ unfolding recordOk slotOk allOf
 returns c =
     let s = c .before .before .before .before .before .before .before in
     let w = c .before .before .before in
-    rw (recordOk, le-ltb (s .args .k) 8 (omega arith), le-ltb (s .args .k) 40 (omega arith), slotOk, ne-eqb _ _ (s .pre .1 .2))
+    rw (recordOk, le-ltb (s .args .k) 8 (omega arith), le-ltb (s .args .k) shelfFrom (omega arith), slotOk, ne-eqb _ _ (s .pre .1 .2))
     (rw (c .row-ok .ensures, c .before .shelf-lag-of .ensures, c .before .before .desks-of .ensures)
     (rw (w .wide .ensures, w .before .tag-a .ensures, w .before .before .tag-b .ensures)))
 
