@@ -1,2 +1,3 @@
--- The laws of a comparison's ways.
+-- The laws of a comparison's ways and answers.
 pub mod Ways
+pub mod Answers

@@ -1,11 +1,17 @@
 // The comparison of two stamps over plain numbers, the same on the book and off it.
 ghost use mathlib.Core.Path.{_≡_};
+ghost use mathlib.Core.Option.{Option};
 ghost use Prim.Native.Nat.{_≤_};
+ghost use Rattle.ring.specs.Phases.{Gap};
 ghost use Rattle.rules.specs.Model.{Row, near, isOut, sameBy, isBefore};
 ghost use Rattle.rules.specs.Model;
-ghost use Rattle.comparing.specs.Ways.{gapOf, Clocked};
+ghost use Rattle.rules.specs.Replies.{toldSays, comparedSays};
+ghost use Rattle.comparing.specs.Ways.{gapOf, Clocked, WayOf};
+ghost use Rattle.comparing.specs.Answers.{beforeBy, compareBy};
+use rules::Compared;
 use rules::Relation;
 use rules::Setup;
+use rules::Told;
 
 // One way of a comparison, from the stamp of an owner to the other stamp: the difference d at the owner's desk, up minus
 // down, and the clocks there.
@@ -17,46 +23,71 @@ pub struct Way {
 }
 
 // Whether a question is out of reach: d does not lie from -(m-1) to n-1.
-pub fn out_of_reach(s: Setup, w: Way) -> bool
-    requires { ⌜ (s .back ≤ 255) × (s .ahead ≤ 255) ⌝ }
-    ensures { λ r. ⌜ r ≡ isOut (near s (gapOf w)) ⌝ }
+pub fn out_of_reach(setup: Setup, way: Way) -> bool
+    requires { ⌜ (setup .back ≤ 255) × (setup .ahead ≤ 255) ⌝ }
+    ensures { λ r. ⌜ r ≡ isOut (near setup (gapOf way)) ⌝ }
 {
-    let up = tools::wide(w.up);
-    let down = tools::wide(w.down);
-    !((up < down + s.ahead) & (down < up + s.back))
+    let up = tools::wide(way.up);
+    let down = tools::wide(way.down);
+    !((up < down + setup.ahead) & (down < up + setup.back))
 }
 
 // Whether d is 0 and the clocks are equal.
-fn same_by(w: Way) -> bool
-    ensures { λ r. ⌜ r ≡ sameBy (gapOf w) (w .from) (w .to) ⌝ }
+fn same_by(way: Way) -> bool
+    ensures { λ r. ⌜ r ≡ sameBy (gapOf way) (way .from) (way .to) ⌝ }
 {
-    (w.down == w.up) & (w.from == w.to)
+    (way.down == way.up) & (way.from == way.to)
 }
 
-// Before, for a stamp of desk j and one of desk k, w the way from the first to the second.
-pub fn is_before(j: u8, k: u8, w: Way) -> bool
-    ensures { λ r. ⌜ ((e f : Row) → Clocked w j e f → r ≡ isBefore (gapOf w) j k e f) ⌝ }
+// Whether the owner's stamp is before the other's, by the way there.
+pub fn is_before(owner: u8, other: u8, there: Way) -> bool
+    ensures { λ r. ⌜ ((e f : Row) → Clocked there owner e f → r ≡ isBefore (gapOf there) owner other e f) ⌝ }
 {
-    ring::later_by(w.up, w.down, w.from, w.to) | ((j != k) & same_by(w))
+    ring::later_by(there.up, there.down, there.from, there.to) | ((owner != other) & same_by(there))
 }
 
-// Compare, which asks both ways: w from the stamp of desk j to that of desk k, and v back.
-pub fn relation(j: u8, k: u8, w: Way, v: Way) -> Relation
-    ensures { λ r. ⌜ ((e f : Row) → Clocked w j e f → Clocked v k f e → r ≡ Model.relation (gapOf w) (gapOf v) j k e f) ⌝ }
+// How the owner's stamp stands to the other's, which asks both ways: there and back.
+pub fn relation(owner: u8, other: u8, there: Way, back: Way) -> Relation
+    ensures { λ r. ⌜ ((e f : Row) → Clocked there owner e f → Clocked back other f e → r ≡ Model.relation (gapOf there) (gapOf back) owner other e f) ⌝ }
 {
-    if (j == k) & same_by(w) {
+    if (owner == other) & same_by(there) {
         return Relation::Same;
     }
-    let there = is_before(j, k, w);
-    let back = is_before(k, j, v);
-    if there {
-        if back {
+    let before = is_before(owner, other, there);
+    let after = is_before(other, owner, back);
+    if before {
+        if after {
             return Relation::Crossed;
         }
         return Relation::Before;
     }
-    if back {
+    if after {
         return Relation::After;
     }
     Relation::Concurrent
+}
+
+// What before answers where both stamps are there: it needs the way there within reach.
+pub fn told(setup: Setup, owner: u8, other: u8, there: Way) -> Told
+    requires { ⌜ (setup .back ≤ 255) × (setup .ahead ≤ 255) ⌝ }
+    ensures { λ r. ⌜ ((g : Option Gap) (e f : Row) → WayOf setup g owner e f there → toldSays r ≡ beforeBy g owner other e f) ⌝ }
+{
+    if out_of_reach(setup, there) {
+        return Told::Refused(rules::OUT_OF_REACH);
+    }
+    if is_before(owner, other, there) {
+        return Told::Yes;
+    }
+    Told::No
+}
+
+// What compare answers where both stamps are there: it needs both ways within reach.
+pub fn compared(setup: Setup, owner: u8, other: u8, there: Way, back: Way) -> Compared
+    requires { ⌜ (setup .back ≤ 255) × (setup .ahead ≤ 255) ⌝ }
+    ensures { λ r. ⌜ ((g h : Option Gap) (e f : Row) → WayOf setup g owner e f there → WayOf setup h other f e back → comparedSays r ≡ compareBy g h owner other e f) ⌝ }
+{
+    if out_of_reach(setup, there) | out_of_reach(setup, back) {
+        return Compared::Refused(rules::OUT_OF_REACH);
+    }
+    Compared::Is(relation(owner, other, there, back))
 }

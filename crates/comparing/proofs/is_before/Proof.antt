@@ -6,7 +6,7 @@ use Rattle.comparing.proofs.is_before.Statement.{statement}
 use Rattle.comparing.proofs.is_before.Tie as tie
 
 returns : tie.Need-returns
-returns c e f p = let x = c .before .before .args in cc (before-clocked (x .w) (x .j) (x .k) e f p)
+returns c e f p = let x = c .before .before .args in cc (before-clocked (x .there) (x .owner) (x .other) e f p)
 
 pub is-before-spec : {M : Type 1} → statement M
 is-before-spec = tie.close (tie.spec (λ c κs. search needs) (λ c κs. search needs) returns)

@@ -7,7 +7,7 @@ use Rattle.comparing.proofs.out_of_reach.Statement.{statement}
 use Rattle.comparing.proofs.out_of_reach.Tie as tie
 
 returns : tie.Need-returns
-returns c = let x = c .before .before .before .before .args in cc (out-by (x .s) (gapOf (x .w)))
+returns c = let x = c .before .before .before .before .args in cc (out-by (x .setup) (gapOf (x .way)))
 
 pub out-of-reach-spec : {M : Type 1} → statement M
 out-of-reach-spec =

@@ -13,21 +13,21 @@ use Rattle.comparing.proofs.relation.Tie as tie
 returns : tie.Need-returns
 returns c e f p q =
     let x = c .before .before .args in
-    relation-by (x .w) (x .j) (x .k) e f p (x .v) true (isBefore (gapOf (x .w)) (x .j) (x .k) e f)
-    (isBefore (gapOf (x .v)) (x .k) (x .j) f e)
-    (ap (λ u. eqb (x .j) (x .k) && u) (sym (c .before .same-by .ensures)) ∙ c .if1 .taken) refl refl
+    relation-by (x .there) (x .owner) (x .other) e f p (x .back) true (isBefore (gapOf (x .there)) (x .owner) (x .other) e f)
+    (isBefore (gapOf (x .back)) (x .other) (x .owner) f e)
+    (ap (λ u. eqb (x .owner) (x .other) && u) (sym (c .before .same-by .ensures)) ∙ c .if1 .taken) refl refl
 
 -- both ways are asked
 asked : (c : tie.After-is-before2) (there back : Bool) → c .before .is-before .result ≡ there → c .is-before2 .result ≡ back → (e f : Row)
-    → Clocked (c .before .before .before .before .args .w) (c .before .before .before .before .args .j) e f
-    → Clocked (c .before .before .before .before .args .v) (c .before .before .before .before .args .k) f e
+    → Clocked (c .before .before .before .before .args .there) (c .before .before .before .before .args .owner) e f
+    → Clocked (c .before .before .before .before .args .back) (c .before .before .before .before .args .other) f e
     → related false there back
-    ≡ relation (gapOf (c .before .before .before .before .args .w)) (gapOf (c .before .before .before .before .args .v))
-    (c .before .before .before .before .args .j) (c .before .before .before .before .args .k) e f
+    ≡ relation (gapOf (c .before .before .before .before .args .there)) (gapOf (c .before .before .before .before .args .back))
+    (c .before .before .before .before .args .owner) (c .before .before .before .before .args .other) e f
 asked c there back t b e f p q =
     let x = c .before .before .before .before .args in
-    relation-by (x .w) (x .j) (x .k) e f p (x .v) false there back
-    (ap (λ u. eqb (x .j) (x .k) && u) (sym (c .before .before .before .same-by .ensures)) ∙ c .before .before .if1 .left)
+    relation-by (x .there) (x .owner) (x .other) e f p (x .back) false there back
+    (ap (λ u. eqb (x .owner) (x .other) && u) (sym (c .before .before .before .same-by .ensures)) ∙ c .before .before .if1 .left)
     (sym t ∙ c .before .is-before .ensures e f p) (sym b ∙ c .is-before2 .ensures f e q)
 
 returns-2 : tie.Need-returns-2
