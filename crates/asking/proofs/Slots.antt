@@ -1,8 +1,8 @@
 -- A used slot of a sound book: its owner, its row, and the way from one to another.
 -- Assumes nothing.
-use Prim.Native.Nat.{ℕ, _+_, _*_, _-_, _<_, _≤_}
+use Prim.Native.Nat.{ℕ, _+_, _-_, _<_, _≤_}
 use mathlib.Core.Path.{_≡_, sym, ap, _∙_}
-use mathlib.Core.Bool.{Bool, true, false}
+use mathlib.Core.Bool.{true, false}
 use mathlib.Core.Option.{some}
 use mathlib.Core.List.{List}
 use native.Mathlib.Omega.{arith}
@@ -11,7 +11,7 @@ use Rattle.tools.specs.Lists.{byte}
 use Rattle.tools.proofs.Tests.{not-off}
 use Rattle.ring.specs.Phases.{Pair, lagGap}
 use Rattle.rules.specs.declared.Setup.{Setup}
-use Rattle.rules.specs.Model.{byIn, rowIn, noSlot, near, isOut, gap, gapHeld, gapFrom}
+use Rattle.rules.specs.Model.{byIn, rowIn, noSlot, near, gap, gapHeld, gapFrom}
 use Rattle.rules.specs.Calls.{ringOf}
 use Rattle.rules.proofs.Setups.{permitted}
 use Rattle.book.specs.Layout.{tagASpot, shelfFrom, rowSpot, clockSpot, spot, setupOf, rowAt}
@@ -20,10 +20,8 @@ use Rattle.book.specs.Codec.{readRow}
 use Rattle.book.specs.Numbers.{tablesOf}
 use Rattle.book.proofs.Soundness.{heldIn, sound-setup, sound-slot}
 use Rattle.book.proofs.Told.{own-at, read-at, few-desks}
-use Rattle.comparing.specs.declared.Way.{Way}
-use Rattle.comparing.specs.Ways.{gapOf}
-use Rattle.refusals.specs.Held.{usedAt, lagIn}
-use Rattle.refusals.proofs.Held.{used-below, used-tag}
+use Rattle.reasons.specs.Held.{usedAt, lagIn}
+use Rattle.reasons.proofs.Held.{used-below, used-tag}
 use Rattle.asking.specs.Slots.{WayBetween}
 
 -- a slot that is used
@@ -89,7 +87,3 @@ module _ (s : List ℕ) (h : sound s ≡ true) (i k : ℕ) (n : noSlot (tablesOf
 module _ (s : List ℕ) (X : Setup) (same : X ≡ setupOf s) where
   pub reach-bytes : sound s ≡ true → (X .back ≤ 255) × (X .ahead ≤ 255)
   reach-bytes h = let p = permitted (setupOf s) (sound-setup s h) in rw same (omega arith)
-
-  pub reach-told : (i k : ℕ) (w : Way) → WayBetween s i k w → (r : Bool) → r ≡ isOut (near X (gapOf w))
-      → isOut (gapFrom (ringOf (setupOf s)) (setupOf s) (tablesOf s) i k) ≡ r
-  reach-told i k w h r q = ap isOut (h .gap) ∙ sym (q ∙ ap (λ (Y : Setup). isOut (near Y (gapOf w))) same)

@@ -1,20 +1,22 @@
-// The calls that ask of a book and leave it as it is: the number that each is answered, and what an accepted one tells.
+// What the calls that ask of a book tell where their slots are used: they leave it as it is.
 ghost use mathlib.Core.Path.{_≡_};
 ghost use mathlib.Core.Bool.{true, false};
-ghost use Prim.Native.Nat.{_+_, _*_, _-_, _<_};
+ghost use Prim.Native.Nat.{_+_, _-_};
 ghost use lib.ListN.{length};
-ghost use Rattle.tools.specs.Tests.{pick};
 ghost use Rattle.rules.specs.Model;
-ghost use Rattle.rules.specs.Model.{says, relates, accepted, byIn, noSlot};
+ghost use Rattle.rules.specs.Model.{byIn, noSlot};
 ghost use Rattle.rules.specs.Calls.{on};
+ghost use Rattle.rules.specs.Replies.{toldSays, comparedSays};
 ghost use Rattle.book.specs.Sound.{sound};
 ghost use Rattle.book.specs.Answers.{answerTo, partOf};
 ghost use Rattle.book.specs.Numbers.{tablesOf, numberOf};
 ghost use Rattle.book.specs.Layout.{bookSize};
-ghost use Rattle.asking.specs.Slots.{WayBetween, slotsNumber, recordFor};
+ghost use Rattle.refusals.specs.First.{slotsNumber};
+ghost use Rattle.asking.specs.Slots.{WayBetween, recordFor};
 use comparing::Way;
-use rules::Relation;
+use rules::Compared;
 use rules::Stamp;
+use rules::Told;
 
 // The owner of the stamp in a used slot.
 fn owner_of(book: &[u8], slot: usize) -> u8
@@ -31,97 +33,43 @@ fn way_of(book: &[u8], first: usize, second: usize) -> Way
     requires { ⌜ (noSlot (tablesOf (now book)) first ≡ false) × (noSlot (tablesOf (now book)) second ≡ false) ⌝ }
     ensures { λ w. ⌜ WayBetween (now (book .entry)) first second w ⌝ }
 {
-    let j = tools::wide(owner_of(book, first));
+    let owner = tools::wide(owner_of(book, first));
     let e = parts::SHELF + first;
     let f = parts::SHELF + second;
-    let p = parts::phases_of(book);
-    let own = parts::phase_at(book, j, j);
-    let old = parts::phase_at(book, e, j);
-    let new = parts::phase_at(book, f, j);
+    let phases = parts::phases_of(book);
+    let own = parts::phase_at(book, owner, owner);
+    let e_phase = parts::phase_at(book, e, owner);
+    let f_phase = parts::phase_at(book, f, owner);
     Way {
-        up: ring::lag(own, old, p),
-        down: ring::lag(own, new, p),
-        from: parts::clock_at(book, e, j),
-        to: parts::clock_at(book, f, j),
+        up: ring::lag(own, e_phase, phases),
+        down: ring::lag(own, f_phase, phases),
+        from: parts::clock_at(book, e, owner),
+        to: parts::clock_at(book, f, owner),
     }
 }
 
-// The number that a call on two slots is answered before their stamps are looked at.
-fn slots_number(book: &[u8], first: usize, second: usize) -> u8
-    ensures { λ r. ⌜ r ≡ slotsNumber (now (book .entry)) first second ⌝ }
+// Before, of two used slots: OutOfReach, or yes or no.
+pub fn told(book: &[u8], first: usize, second: usize) -> Told
+    requires { ⌜ slotsNumber (now book) first second ≡ 0 ⌝ }
+    ensures { λ r. ⌜ toldSays r ≡ answerTo (now (book .entry)) (on (Model.before first second)) ⌝ }
 {
-    if !soundness::sound(book) {
-        return rules::BAD_BOOK;
-    }
-    if !refusals::is_used(book, parts::SHELF, first)
-        | !refusals::is_used(book, parts::SHELF, second)
-    {
-        return rules::NO_PLACE;
-    }
-    rules::DONE
+    let setup = parts::setup_of(book);
+    let owner = owner_of(book, first);
+    let other = owner_of(book, second);
+    comparing::told(setup, owner, other, way_of(book, first, second))
 }
 
-// The number that before is answered; with both ways, that of compare, which needs both within reach.
-pub fn reach_number(book: &[u8], first: usize, second: usize, both: bool) -> u8
-    ensures { λ r. ⌜ r ≡ numberOf (now (book .entry)) (pick both (Model.compare first second) (Model.before first second)) ⌝ }
+// Compare, of two used slots: OutOfReach, or the relation.
+pub fn compared(book: &[u8], first: usize, second: usize) -> Compared
+    requires { ⌜ slotsNumber (now book) first second ≡ 0 ⌝ }
+    ensures { λ r. ⌜ comparedSays r ≡ answerTo (now (book .entry)) (on (Model.compare first second)) ⌝ }
 {
-    let n = slots_number(book, first, second);
-    if n != rules::DONE {
-        return n;
-    }
-    let s = parts::setup_of(book);
-    if comparing::out_of_reach(s, way_of(book, first, second))
-        | (both & comparing::out_of_reach(s, way_of(book, second, first)))
-    {
-        return rules::OUT_OF_REACH;
-    }
-    rules::DONE
-}
-
-// The number that show is answered.
-pub fn show_number(book: &[u8], slot: usize) -> u8
-    ensures { λ r. ⌜ r ≡ numberOf (now (book .entry)) (Model.show slot) ⌝ }
-{
-    slots_number(book, slot, slot)
-}
-
-// The number that write is answered, into so many bytes of room.
-pub fn write_number(book: &[u8], slot: usize, room: usize) -> u8
-    ensures { λ r. ⌜ r ≡ numberOf (now (book .entry)) (Model.write slot room) ⌝ }
-{
-    let n = slots_number(book, slot, slot);
-    if n != rules::DONE {
-        return n;
-    }
-    if room < parts::RECORD_BYTES {
-        return rules::NO_ROOM;
-    }
-    rules::DONE
-}
-
-// Before, of two slots that it accepts.
-pub fn is_before(book: &[u8], first: usize, second: usize) -> bool
-    requires { ⌜ numberOf (now book) (Model.before first second) ≡ 0 ⌝ }
-    ensures { λ r. ⌜ accepted (says r) ≡ answerTo (now (book .entry)) (on (Model.before first second)) ⌝ }
-{
-    let j = owner_of(book, first);
-    let k = owner_of(book, second);
-    comparing::is_before(j, k, way_of(book, first, second))
-}
-
-// Compare, of two slots that it accepts.
-pub fn relation(book: &[u8], first: usize, second: usize) -> Relation
-    requires { ⌜ numberOf (now book) (Model.compare first second) ≡ 0 ⌝ }
-    ensures { λ r. ⌜ accepted (relates r) ≡ answerTo (now (book .entry)) (on (Model.compare first second)) ⌝ }
-{
-    let j = owner_of(book, first);
-    let k = owner_of(book, second);
-    comparing::relation(
-        j,
-        k,
-        way_of(book, first, second),
-        way_of(book, second, first),
-    )
+    let setup = parts::setup_of(book);
+    let owner = owner_of(book, first);
+    let other = owner_of(book, second);
+    let there = way_of(book, first, second);
+    let back = way_of(book, second, first);
+    comparing::compared(setup, owner, other, there, back)
 }
 
 // The sixteen row bytes of a slot that show accepts, as a part of the book itself.

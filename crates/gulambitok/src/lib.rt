@@ -190,7 +190,7 @@ pub extern "C" fn gulambitok_show(book: &[u8], slot: usize, row: &mut [u8]) -> u
     ensures { λ _. ⌜ now (row .exit) ≡ given partIn (now (row .entry)) (tooShort 16 (now (row .entry)))
         (answerTo (now (book .entry)) (on (Model.show slot))) ⌝ }
 {
-    let n = asking::show_number(book, slot);
+    let n = refusals::show_number(book, slot);
     if row.len() < parts::ROW_BYTES {
         return door::number_by(true, n);
     }

@@ -35,9 +35,9 @@ use Rattle.book.proofs.Stamped.{seat-put-eight, merged-eight}
 use Rattle.book.proofs.Told.{seat-row, read-at, few-desks}
 use Rattle.rows.specs.Rows.{AtDesk, Grows, grownRow, turnedRow, mergedRow}
 use Rattle.rows.proofs.Rows.{at-desk, grows}
-use Rattle.refusals.specs.Held.{usedAt}
+use Rattle.reasons.specs.Held.{usedAt}
 use Rattle.refusals.specs.First.{usedNumber}
-use Rattle.refusals.proofs.Held.{used-below}
+use Rattle.reasons.proofs.Held.{used-below}
 use Rattle.refusals.proofs.First.{asked-clear}
 use Rattle.portal.specs.Fresh.{cleared, freeAfter}
 

@@ -186,7 +186,7 @@ pub fn send(book: &mut [u8], desk: usize, to: usize) -> Sent
             stamp: stamp,
         };
     }
-    let p = refusals::free_from(&book[..], parts::MAIL);
+    let p = reasons::free_from(&book[..], parts::MAIL);
     let row = rows::grown_row(&book[..], desk);
     parts::post(book, parts::MAIL + p, (desk + 1) as u8, (to + 1) as u8, row);
     let stamped = take_row(book, desk, row);
@@ -236,23 +236,23 @@ pub fn keep(book: &mut [u8], desk: usize) -> Kept
     if n != rules::DONE {
         return Kept::Refused(n);
     }
-    let s = refusals::free_from(&book[..], parts::SHELF);
+    let s = reasons::free_from(&book[..], parts::SHELF);
     let row = rows::row_array(&book[..], desk);
     parts::post(book, parts::SHELF + s, (desk + 1) as u8, parts::FILLER, row);
     Kept::Slot(s as u8)
 }
 
-// Drop and discard: a used slot or place is freed, any other refused; a is the record of the first.
-fn free(book: &mut [u8], a: usize, p: usize) -> u8
-    requires { ⌜ a ≤ shelfFrom ⌝ }
-    ensures { λ r. ⌜ r ≡ usedNumber (now (book .entry)) a p ⌝ }
-    ensures { λ _. ⌜ now (book .exit) ≡ freeAfter (now (book .entry)) a p ⌝ }
+// Drop and discard: a used slot or place is freed, any other refused; first is the record of place or slot 0.
+fn free(book: &mut [u8], first: usize, place: usize) -> u8
+    requires { ⌜ first ≤ shelfFrom ⌝ }
+    ensures { λ r. ⌜ r ≡ usedNumber (now (book .entry)) first place ⌝ }
+    ensures { λ _. ⌜ now (book .exit) ≡ freeAfter (now (book .entry)) first place ⌝ }
 {
-    let n = refusals::used_number(&book[..], a, p);
+    let n = refusals::used_number(&book[..], first, place);
     if n != rules::DONE {
         return n;
     }
-    clear(book, a + p);
+    clear(book, first + place);
     rules::DONE
 }
 
@@ -276,32 +276,29 @@ pub fn discard(book: &mut [u8], place: usize) -> u8
 pub fn before(book: &[u8], first: usize, second: usize) -> Told
     ensures { λ r. ⌜ toldSays r ≡ answerTo (now (book .entry)) (on (Model.before first second)) ⌝ }
 {
-    let n = asking::reach_number(book, first, second, false);
+    let n = refusals::slots_number(book, first, second);
     if n != rules::DONE {
         return Told::Refused(n);
     }
-    if asking::is_before(book, first, second) {
-        return Told::Yes;
-    }
-    Told::No
+    asking::told(book, first, second)
 }
 
 // Compare, of the stamps in two slots.
 pub fn compare(book: &[u8], first: usize, second: usize) -> Compared
     ensures { λ r. ⌜ comparedSays r ≡ answerTo (now (book .entry)) (on (Model.compare first second)) ⌝ }
 {
-    let n = asking::reach_number(book, first, second, true);
+    let n = refusals::slots_number(book, first, second);
     if n != rules::DONE {
         return Compared::Refused(n);
     }
-    Compared::Is(asking::relation(book, first, second))
+    asking::compared(book, first, second)
 }
 
 // Show hands back the sixteen row bytes of a slot as a part of the book itself; a refused show hands back an empty part.
 pub fn show(book: &[u8], slot: usize) -> &[u8]
     ensures { λ r. ⌜ now r ≡ partOf (now (book .entry)) slot ⌝ }
 {
-    if asking::show_number(book, slot) != rules::DONE {
+    if refusals::show_number(book, slot) != rules::DONE {
         return &book[0..0];
     }
     asking::row_part(book, slot)
@@ -313,7 +310,7 @@ pub fn write(book: &[u8], slot: usize, target: &mut [u8]) -> u8
     ensures { λ _. ⌜ now (target .exit) ≡ targetAfter (now (book .entry)) slot (now (target .entry)) ⌝ }
 {
     let room = target.len();
-    let n = asking::write_number(book, slot, room);
+    let n = refusals::write_number(book, slot, room);
     if n != rules::DONE {
         return n;
     }

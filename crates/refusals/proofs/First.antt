@@ -13,7 +13,7 @@ use Rattle.book.specs.Layout.{setupOf}
 use Rattle.book.specs.Sound.{sound}
 use Rattle.rows.specs.Rows.{AtDesk}
 use Rattle.refusals.specs.First.{asked, deskNumber}
-use Rattle.refusals.proofs.Held.{desk-there}
+use Rattle.reasons.proofs.Held.{desk-there}
 
 module _ (s : List ℕ) (t : Bool) where
   -- whatever else the act may be refused for

@@ -1,3 +1,3 @@
 -- The laws of refusals.
-pub mod Held
 pub mod First
+pub mod Slots

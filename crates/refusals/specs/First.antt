@@ -2,16 +2,18 @@
 -- Assumes nothing.
 --   asked s t n       BadBook where the bytes s are not sound, else n where t holds, else 0
 --   deskNumber s j    what is due of desk j alone: BadBook, NoDesk, or 0
+--   slotsNumber s i k what is due of the slots i and k alone: BadBook, NoPlace, or 0
 --   usedNumber s a p  what is due of the p-th of the records from record a on, which is to be used: BadBook, NoPlace, or 0
 use Prim.Native.Nat.{ℕ}
-use mathlib.Core.Bool.{Bool, not}
+use mathlib.Core.Bool.{Bool, not, _||_}
 use mathlib.Core.List.{List}
 use Rattle.tools.specs.Tests.{pick}
 use Rattle.rules.specs.Numbers.{BadBook, NoDesk, NoPlace, number}
-use Rattle.rules.specs.Model.{noDesk}
+use Rattle.rules.specs.Model.{noDesk, noSlot}
 use Rattle.book.specs.Layout.{setupOf}
 use Rattle.book.specs.Sound.{sound}
-use Rattle.refusals.specs.Held.{usedAt}
+use Rattle.book.specs.Numbers.{tablesOf}
+use Rattle.reasons.specs.Held.{usedAt}
 
 abbrev pub asked : List ℕ → Bool → ℕ → ℕ
 asked s t n = pick (sound s) (pick t n 0) (number BadBook)
@@ -21,3 +23,6 @@ deskNumber s j = asked s (noDesk (setupOf s) j) (number NoDesk)
 
 abbrev pub usedNumber : List ℕ → ℕ → ℕ → ℕ
 usedNumber s a p = asked s (not (usedAt s a p)) (number NoPlace)
+
+abbrev pub slotsNumber : List ℕ → ℕ → ℕ → ℕ
+slotsNumber s i k = asked s (noSlot (tablesOf s) i || noSlot (tablesOf s) k) (number NoPlace)

@@ -1,3 +1,2 @@
--- What the numbers of the calls ask of the bytes of a book.
-pub mod Held
+-- What the numbers of the calls ask first.
 pub mod First

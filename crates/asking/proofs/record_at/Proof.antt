@@ -8,7 +8,8 @@ use Rattle.book.proofs.Soundness.{sound-size}
 use Rattle.book.proofs.Told.{few-desks}
 use Rattle.book.specs.Layout.{bookSize}
 use Rattle.asking.proofs.Slots.{slot-place}
-use Rattle.asking.proofs.Accepted.{One, write-one, write-record}
+use Rattle.refusals.proofs.Slots.{One, write-one}
+use Rattle.asking.proofs.Accepted.{write-record}
 use borrow.Author.Needs.{needs}
 use Rattle.asking.proofs.record_at.Statement.{statement}
 use Rattle.asking.proofs.record_at.Tie as tie

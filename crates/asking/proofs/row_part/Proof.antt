@@ -7,7 +7,8 @@ use lib.ListN.{length, take, drop}
 use Rattle.book.specs.Layout.{bookSize, rowSize}
 use Rattle.book.proofs.Soundness.{sound-size}
 use Rattle.asking.proofs.Slots.{slot-place}
-use Rattle.asking.proofs.Accepted.{show-one, show-part}
+use Rattle.refusals.proofs.Slots.{show-one}
+use Rattle.asking.proofs.Accepted.{show-part}
 use borrow.Author.Needs.{needs}
 use Rattle.asking.proofs.row_part.Statement.{statement}
 use Rattle.asking.proofs.row_part.Tie as tie

@@ -18,19 +18,19 @@ entry c = c .before .before .before .before
 
 -- its number is 0
 done : (c : tie.Else1)
-    → usedNumber (entry c .args .book .now) (entry c .args .a) (entry c .args .p) ≡ 0
+    → usedNumber (entry c .args .book .now) (entry c .args .first) (entry c .args .place) ≡ 0
 done c = sym (c .before .used-number .ensures) ∙ c .if1 .left
 
 -- so the book is sound, and there is such a place or slot
 ready : (c : tie.Else1)
-    → (sound (c .before .before .before .before .args .book .now) ≡ true) × (c .before .before .before .before .args .p < 32)
-ready c = used-ready _ (c .before .before .before .before .args .a) _ (done c)
+    → (sound (c .before .before .before .before .args .book .now) ≡ true) × (c .before .before .before .before .args .place < 32)
+ready c = used-ready _ (c .before .before .before .before .args .first) _ (done c)
 
 returns : tie.Need-returns
 returns c =
     let w = c .before .used-number in
     let a = c .before .before .before .before .args in
-    (w .ensures, free-left (a .book .now) (a .a) (a .p) (w .result) (w .ensures) (c .if1 .taken))
+    (w .ensures, free-left (a .book .now) (a .first) (a .place) (w .result) (w .ensures) (c .if1 .taken))
 
 add-clear : tie.Need-add-clear
 add-clear c = omega (arith, ready (c .before) .1)
@@ -42,7 +42,7 @@ returns-2 : tie.Need-returns-2
 returns-2 c =
     let e = done (c .before .before .before .before) in
     let a = c .before .before .before .before .before .before .before .before .args in
-    (sym e, free-done (a .book .now) (a .a) (a .p) e _ (c .before .before .clear .ensures))
+    (sym e, free-done (a .book .now) (a .first) (a .place) e _ (c .before .before .clear .ensures))
 
 pub free-spec : {M : Type 1} → statement M
 free-spec =

@@ -8,7 +8,7 @@ use Rattle.book.specs.Stamps.{filled}
 use Rattle.rules.specs.Calls.{on}
 use Rattle.book.specs.Answers.{answerTo}
 use Rattle.book.proofs.Numbers.{answer-number}
-use Rattle.asking.proofs.Accepted.{write-room}
+use Rattle.refusals.proofs.Slots.{write-room}
 use Rattle.portal.proofs.Asked.{write-refused}
 use borrow.Author.Needs.{needs}
 use Rattle.portal.proofs.write.Statement.{statement}

@@ -18,12 +18,12 @@ returns c =
     let n = c .before .desk-number in
     desk-due (a .book .now) (a .desk) (n .result) (n .ensures) (c .if1 .taken) _
 
-unstarted-requires : tie.Need-unstarted-requires
-unstarted-requires c κs = there c .at
+no-event-requires : tie.Need-no-event-requires
+no-event-requires c κs = there c .at
 
 returns-2 : tie.Need-returns-2
 unfolding reasons
-returns-2 c = let d = there (c .before .before) in rw (d .whole, d .desk, sym (c .before .unstarted .ensures) ∙ c .if2 .taken)
+returns-2 c = let d = there (c .before .before) in rw (d .whole, d .desk, sym (c .before .no-event .ensures) ∙ c .if2 .taken)
 
 full-requires : tie.Need-full-requires
 full-requires c κs = (there (c .before .before) .at .size, search needs)
@@ -33,15 +33,15 @@ unfolding reasons
 returns-3 c =
     let e = c .before .before in
     let d = there (e .before .before) in
-    rw (d .whole, d .desk, sym (e .before .unstarted .ensures) ∙ e .if2 .left, sym (c .before .full .ensures) ∙ c .if3 .taken)
+    rw (d .whole, d .desk, sym (e .before .no-event .ensures) ∙ e .if2 .left, sym (c .before .full .ensures) ∙ c .if3 .taken)
 
 returns-4 : tie.Need-returns-4
 unfolding reasons
 returns-4 c =
     let e = c .before .before in
     let d = there (e .before .before) in
-    rw (d .whole, d .desk, sym (e .before .unstarted .ensures) ∙ e .if2 .left, sym (c .before .full .ensures) ∙ c .if3 .left)
+    rw (d .whole, d .desk, sym (e .before .no-event .ensures) ∙ e .if2 .left, sym (c .before .full .ensures) ∙ c .if3 .left)
 
 pub keep-number-spec : {M : Type 1} → statement M
 keep-number-spec =
-    tie.close (tie.spec (λ c κs. search needs) returns unstarted-requires returns-2 full-requires returns-3 returns-4)
+    tie.close (tie.spec (λ c κs. search needs) returns no-event-requires returns-2 full-requires returns-3 returns-4)

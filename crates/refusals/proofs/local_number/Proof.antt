@@ -18,17 +18,17 @@ returns c =
     let n = c .before .desk-number in
     desk-due (a .book .now) (a .desk) (n .result) (n .ensures) (c .if1 .taken) _
 
-at-limit-requires : tie.Need-at-limit-requires
-at-limit-requires c κs = there c .at
+phase-full-requires : tie.Need-phase-full-requires
+phase-full-requires c κs = there c .at
 
 returns-2 : tie.Need-returns-2
 unfolding reasons
-returns-2 c = let d = there (c .before .before) in rw (d .whole, d .desk, sym (c .before .at-limit .ensures) ∙ c .if2 .taken)
+returns-2 c = let d = there (c .before .before) in rw (d .whole, d .desk, sym (c .before .phase-full .ensures) ∙ c .if2 .taken)
 
 returns-3 : tie.Need-returns-3
 unfolding reasons
-returns-3 c = let d = there (c .before .before) in rw (d .whole, d .desk, sym (c .before .at-limit .ensures) ∙ c .if2 .left)
+returns-3 c = let d = there (c .before .before) in rw (d .whole, d .desk, sym (c .before .phase-full .ensures) ∙ c .if2 .left)
 
 pub local-number-spec : {M : Type 1} → statement M
 local-number-spec =
-    tie.close (tie.spec (λ c κs. search needs) returns at-limit-requires returns-2 returns-3)
+    tie.close (tie.spec (λ c κs. search needs) returns phase-full-requires returns-2 returns-3)

@@ -4,8 +4,8 @@ use mathlib.Core.Path.{_≡_, sym, ap, _∙_}
 use mathlib.Core.Bool.{true, not}
 use borrow.Author.Tests.{not-false}
 use Rattle.rules.specs.Model.{reasons}
-use Rattle.refusals.specs.Held.{usedAt}
-use Rattle.refusals.proofs.Held.{used-below}
+use Rattle.reasons.specs.Held.{usedAt}
+use Rattle.reasons.proofs.Held.{used-below}
 use Rattle.refusals.proofs.First.{desk-due, Seated, seated}
 use borrow.Author.Needs.{needs}
 use Rattle.refusals.proofs.receive_number.Statement.{statement}
@@ -45,8 +45,8 @@ returns-3 c =
     let d = there (w .before .before) in
     rw (d .whole, d .desk, ap not (waits w), sym (c .before .not-yours .ensures) ∙ c .if3 .taken)
 
-at-limit-requires : tie.Need-at-limit-requires
-at-limit-requires c κs = there (c .before .before .before .before) .at
+phase-full-requires : tie.Need-phase-full-requires
+phase-full-requires c κs = there (c .before .before .before .before) .at
 
 returns-4 : tie.Need-returns-4
 unfolding reasons
@@ -59,7 +59,7 @@ returns-4 c =
       d .desk,
       ap not (waits w),
       sym (y .before .not-yours .ensures) ∙ y .if3 .left,
-      sym (c .before .at-limit .ensures) ∙ c .if4 .taken,
+      sym (c .before .phase-full .ensures) ∙ c .if4 .taken,
     )
 
 returns-5 : tie.Need-returns-5
@@ -73,11 +73,11 @@ returns-5 c =
       d .desk,
       ap not (waits w),
       sym (y .before .not-yours .ensures) ∙ y .if3 .left,
-      sym (c .before .at-limit .ensures) ∙ c .if4 .left,
+      sym (c .before .phase-full .ensures) ∙ c .if4 .left,
     )
 
 pub receive-number-spec : {M : Type 1} → statement M
 receive-number-spec =
     tie.close
     (tie.spec
-    (λ c κs. search needs) returns is-used-requires returns-2 not-yours-requires returns-3 at-limit-requires returns-4 returns-5)
+    (λ c κs. search needs) returns is-used-requires returns-2 not-yours-requires returns-3 phase-full-requires returns-4 returns-5)

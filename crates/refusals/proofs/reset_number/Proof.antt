@@ -18,12 +18,12 @@ returns c =
     let n = c .before .desk-number in
     desk-due (a .book .now) (a .desk) (n .result) (n .ensures) (c .if1 .taken) _
 
-seats-behind-requires : tie.Need-seats-behind-requires
-seats-behind-requires c κs = there c .at
+seat-behind-requires : tie.Need-seat-behind-requires
+seat-behind-requires c κs = there c .at
 
 returns-2 : tie.Need-returns-2
 unfolding reasons
-returns-2 c = let d = there (c .before .before) in rw (d .whole, d .desk, sym (c .before .seats-behind .ensures) ∙ c .if2 .taken)
+returns-2 c = let d = there (c .before .before) in rw (d .whole, d .desk, sym (c .before .seat-behind .ensures) ∙ c .if2 .taken)
 
 mail-behind-requires : tie.Need-mail-behind-requires
 mail-behind-requires c κs = there (c .before .before) .at
@@ -33,7 +33,7 @@ unfolding reasons
 returns-3 c =
     let f = c .before .before in
     let d = there (f .before .before) in
-    rw (d .whole, d .desk, sym (f .before .seats-behind .ensures) ∙ f .if2 .left, sym (c .before .mail-behind .ensures) ∙ c .if3 .taken)
+    rw (d .whole, d .desk, sym (f .before .seat-behind .ensures) ∙ f .if2 .left, sym (c .before .mail-behind .ensures) ∙ c .if3 .taken)
 
 shelf-behind-requires : tie.Need-shelf-behind-requires
 shelf-behind-requires c κs = there (c .before .before .before .before) .at
@@ -47,7 +47,7 @@ returns-4 c =
     rw (
       d .whole,
       d .desk,
-      sym (f .before .seats-behind .ensures) ∙ f .if2 .left,
+      sym (f .before .seat-behind .ensures) ∙ f .if2 .left,
       sym (g .before .mail-behind .ensures) ∙ g .if3 .left,
       sym (c .before .shelf-behind .ensures) ∙ c .if4 .taken,
     )
@@ -61,7 +61,7 @@ returns-5 c =
     rw (
       d .whole,
       d .desk,
-      sym (f .before .seats-behind .ensures) ∙ f .if2 .left,
+      sym (f .before .seat-behind .ensures) ∙ f .if2 .left,
       sym (g .before .mail-behind .ensures) ∙ g .if3 .left,
       sym (c .before .shelf-behind .ensures) ∙ c .if4 .left,
     )
@@ -70,4 +70,4 @@ pub reset-number-spec : {M : Type 1} → statement M
 reset-number-spec =
     tie.close
     (tie.spec
-    (λ c κs. search needs) returns seats-behind-requires returns-2 mail-behind-requires returns-3 shelf-behind-requires returns-4 returns-5)
+    (λ c κs. search needs) returns seat-behind-requires returns-2 mail-behind-requires returns-3 shelf-behind-requires returns-4 returns-5)

@@ -8,7 +8,7 @@ use Rattle.book.specs.Layout.{setupOf}
 use Rattle.book.specs.Sound.{sound}
 use Rattle.book.proofs.Soundness.{sound-size}
 use Rattle.rows.specs.Rows.{AtDesk}
-use Rattle.refusals.proofs.Held.{desk-there}
+use Rattle.reasons.proofs.Held.{desk-there}
 use Rattle.tools.proofs.Tests.{or-false-l}
 use borrow.Author.Needs.{needs}
 use Rattle.refusals.proofs.send_number.Statement.{statement}
@@ -54,8 +54,8 @@ returns-3 : tie.Need-returns-3
 unfolding reasons
 returns-3 c = let d = c .before in rw (whole (d .before .before .before), desks d, eq-eqb _ _ (c .if3 .taken))
 
-at-limit-requires : tie.Need-at-limit-requires
-at-limit-requires c κs = there (c .before)
+phase-full-requires : tie.Need-phase-full-requires
+phase-full-requires c κs = there (c .before)
 
 returns-4 : tie.Need-returns-4
 unfolding reasons
@@ -65,7 +65,7 @@ returns-4 c =
       whole (d .before .before .before),
       desks d,
       ne-eqb _ _ (c .before .before .if3 .left),
-      sym (c .before .at-limit .ensures) ∙ c .if4 .taken,
+      sym (c .before .phase-full .ensures) ∙ c .if4 .taken,
     )
 
 full-requires : tie.Need-full-requires
@@ -79,7 +79,7 @@ returns-5 c =
       whole (d .before .before .before),
       desks d,
       ne-eqb _ _ (c .before .before .before .before .if3 .left),
-      sym (c .before .before .before .at-limit .ensures) ∙ c .before .before .if4 .left,
+      sym (c .before .before .before .phase-full .ensures) ∙ c .before .before .if4 .left,
       sym (c .before .full .ensures) ∙ c .if5 .taken,
     )
 
@@ -91,7 +91,7 @@ returns-6 c =
       whole (d .before .before .before),
       desks d,
       ne-eqb _ _ (c .before .before .before .before .if3 .left),
-      sym (c .before .before .before .at-limit .ensures) ∙ c .before .before .if4 .left,
+      sym (c .before .before .before .phase-full .ensures) ∙ c .before .before .if4 .left,
       sym (c .before .full .ensures) ∙ c .if5 .left,
     )
 
@@ -99,5 +99,5 @@ pub send-number-spec : {M : Type 1} → statement M
 send-number-spec =
     tie.close
     (tie.spec
-    (λ c κs. search needs) returns no-desk-requires no-desk-requires-2 returns-2 returns-3 at-limit-requires returns-4 full-requires
+    (λ c κs. search needs) returns no-desk-requires no-desk-requires-2 returns-2 returns-3 phase-full-requires returns-4 full-requires
     returns-5 returns-6)

@@ -1,0 +1,2 @@
+-- The laws of the reasons.
+pub mod Held

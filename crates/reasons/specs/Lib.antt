@@ -1,0 +1,2 @@
+-- What the reasons ask of the bytes of a book.
+pub mod Held
