@@ -10,12 +10,11 @@ use mathlib.Core.Logic.{_⊎_, ⊎-elim}
 use native.Mathlib.Nat.{not-suc-le-zero, le-of-suc-le-suc, add-zero}
 use native.Mathlib.Omega.{arith}
 use borrow.Author.Tests.{eqb-true, eq-eqb, le-leb}
-use lib.Dec.{eqb}
 use lib.ListN.{length, length-append, List·getD-append}
 use lib.Seq.{ext-getD, getD-append-add}
 use Rattle.tools.specs.Tests.{pick, allOf, allBelow, within}
 use Rattle.tools.specs.Lists.{byte, tab}
-use Rattle.tools.proofs.Tests.{each, not-each, all-at, all-in, lt-or-le}
+use Rattle.tools.proofs.Tests.{each, all-at, all-in, lt-or-le}
 use Rattle.tools.proofs.Lists.{length-tab, tab-at, is-tab}
 use Rattle.text.specs.Words.{opens}
 use Rattle.text.specs.Digits.{isDigit, isNumber, numberAt, numbersAt}
@@ -37,7 +36,7 @@ use Rattle.commands.specs.declared.Command.the-variants.{
 }
 use Rattle.commands.specs.Lines.{shaped, Verb, verbs, choose, parseOf}
 use Rattle.commands.specs.Written.{fields, numbersOf, textOf, Small}
-use Rattle.commands.proofs.Shapes.{number-there, sift}
+use Rattle.commands.proofs.Shapes.{sized, number-there, sift}
 
 fields-length : (ns : List ℕ) → length (fields ns) ≡ 4 * length ns
 fields-length [] = refl
@@ -112,31 +111,18 @@ own : (v : Verb) (vs : List Verb) (ns : List ℕ) → v .count ≡ length ns →
 unfolding choose
 own v vs ns e s = rw (choose, e, is-shaped (v .word) ns s, numbers-back (v .word) ns s)
 
-other : (v : Verb) (vs : List Verb) (l : List ℕ) → opens l (v .word) ≡ false → choose (v ∷ vs) l ≡ choose vs l
-unfolding choose shaped
-other v vs l h =
-    rw (
-      choose,
-      not-each
-          (eqb (length l) (length (v .word) + 4 * v .count)
-          ∷ opens l (v .word)
-          ∷ allBelow (v .count) (λ i. isNumber l (length (v .word) + 4 * i)) ∷ []) 1 h,
-    )
-
 pub written : (c : Command) → (c ≡ Bad → ⊥) → Small (numbersOf c) → parseOf (textOf c) ≡ c
 unfolding verbs opens allBelow
-written (Keep d) g s = sift _ 8 refl ∙ own _ _ (d ∷ []) refl s
-written (Drop d) g s = sift _ 8 refl ∙ other _ _ _ refl ∙ own _ _ (d ∷ []) refl s
-written (Local d) g s = sift _ 9 refl ∙ own _ _ (d ∷ []) refl s
-written (Reset d) g s = sift _ 9 refl ∙ other _ _ _ refl ∙ own _ _ (d ∷ []) refl s
-written (Discard p) g s = sift _ 11 refl ∙ own _ _ (p ∷ []) refl s
-written (Send d k) g s = sift _ 12 refl ∙ own _ _ (d ∷ k ∷ []) refl s
-written (Before d k) g s = sift _ 14 refl ∙ own _ _ (d ∷ k ∷ []) refl s
-written (Receive d k) g s = sift _ 15 refl ∙ own _ _ (d ∷ k ∷ []) refl s
-written (Compare d k) g s = sift _ 15 refl ∙ other _ _ _ refl ∙ own _ _ (d ∷ k ∷ []) refl s
-written (Start x) g s =
-    sift _ 33 refl
-    ∙ own _ _ (x .desks ∷ x .phases ∷ x .clocks ∷ x .seatLag ∷ x .shelfLag ∷ x .back ∷ x .ahead ∷ []) refl s
+written (Start x) g s = sift _ _ refl ∙ own _ _ (numbersOf (Start x)) refl s
+written (Local d) g s = sift _ _ refl ∙ own _ _ (d ∷ []) refl s
+written (Send d k) g s = sift _ _ refl ∙ own _ _ (d ∷ k ∷ []) refl s
+written (Receive d p) g s = sift _ _ refl ∙ own _ _ (d ∷ p ∷ []) refl s
+written (Reset d) g s = sift _ _ refl ∙ own _ _ (d ∷ []) refl s
+written (Keep d) g s = sift _ _ refl ∙ own _ _ (d ∷ []) refl s
+written (Drop d) g s = sift _ _ refl ∙ own _ _ (d ∷ []) refl s
+written (Discard p) g s = sift _ _ refl ∙ own _ _ (p ∷ []) refl s
+written (Before d k) g s = sift _ _ refl ∙ own _ _ (d ∷ k ∷ []) refl s
+written (Compare d k) g s = sift _ _ refl ∙ own _ _ (d ∷ k ∷ []) refl s
 written Bad g s = absurd (g refl)
 
 -- the other way: what a shape says of a line
@@ -156,10 +142,6 @@ module _ (l w : List ℕ) (n : ℕ) (h : shaped l w n ≡ true) where
   there-back : (i : ℕ) → i < n → Digits l (length w + 4 * i)
   there-back i q = digits l (length w + 4 * i) (number-there l w n h i q)
 
-  size-back : length l ≡ length w + 4 * n
-  unfolding shaped
-  size-back = eqb-true _ _ (each _ h 0)
-
   word-back : (i : ℕ) → i < length w → byte l i ≡ byte w i
   unfolding shaped opens
   word-back i q = eqb-true _ _ (all-at _ (length w) i q (each _ h 1))
@@ -178,12 +160,12 @@ module _ (l w : List ℕ) (n : ℕ) (h : shaped l w n ≡ true) where
   shape-back =
       ext-getD 0 l (w ++ fields found)
       (simp length-append
-      (omega (arith, size-back, fields-length found, length-tab 0 n (λ i. numberAt l (length w + 4 * i)))))
+      (omega (arith, sized l w n h, fields-length found, length-tab 0 n (λ i. numberAt l (length w + 4 * i)))))
       (λ i q.
       ⊎-elim (λ (a : i < length w). word-back i a ∙ sym (List·getD-append w (fields found) 0 i a))
       (λ (a : length w ≤ i).
       let e : length w + 4 * ((i - length w) / 4) + (i - length w) % 4 ≡ i = omega arith in
-      rw e at (number-back ((i - length w) / 4) ((i - length w) % 4) (omega (arith, size-back)) (omega arith)))
+      rw e at (number-back ((i - length w) / 4) ((i - length w) % 4) (omega (arith, sized l w n h)) (omega arith)))
       (lt-or-le i (length w)))
 
   small-back : Small found

@@ -1,84 +1,101 @@
--- Laws of a line's shape.
+-- Laws of a line's shape, and of the verbs that it asks for.
 -- Assumes nothing.
---   sift          of all verbs, those whose lines are as long as the line decide
---   number-there  a number of a line that has a verb's shape
---   bad-length    a line of a length that no verb's line has
---   long-bad      a line that is longer than every verb's
+--   sized         a line that has a verb's shape is as long as the verb and its numbers
+--   number-there  each of its numbers is one
+--   fits          it is as long as is asked, where the verb and its numbers are
+--   Past vs n l   the first n verbs do not decide: the others do
+--   chosen        the first verb decides where the line has its shape; its numbers end the line
+--   passed        the others decide where it has not
+--   sift          of all verbs, those decide whose lines are as long as the line and open as it does
+--   long-bad      no verb has a line over 64 bytes
 --   kept-enough   the bytes of a line that are kept tell as much as the whole
-use Prim.Native.Nat.{ℕ, _+_, _*_, _<_, _≤_}
+use Prim.Native.Nat.{ℕ, _+_, _*_, _-_, _<_, _≤_}
 use mathlib.Core.Path.{_≡_, refl, sym, ap, _∙_}
-use mathlib.Core.Bool.{Bool, true, false}
+use mathlib.Core.Bool.{Bool, true, false, _&&_, true≢false}
 use mathlib.Core.List.{List, [], _∷_}
 use mathlib.Core.Logic.{⊎-elim}
 use native.Mathlib.Omega.{arith}
-use borrow.Author.Tests.{ne-eqb}
-use lib.Dec.{eqb}
-use lib.ListN.{length, take}
+use borrow.Author.Tests.{eqb-true, ltb-false, ne-eqb}
+use lib.Dec.{eqb, ltb}
+use lib.ListN.{length, take, drop}
 use lib.Seq.{take-all, length-take-le}
-use Rattle.tools.specs.Tests.{pick}
+use Rattle.tools.specs.Tests.{pick, allOf}
 use Rattle.tools.proofs.Tests.{each, not-each, all-at, lt-or-le}
-use Rattle.text.specs.Digits.{isNumber}
+use Rattle.text.specs.Words.{opens}
+use Rattle.text.specs.Digits.{isNumber, numbersAt}
 use Rattle.text.specs.Stream.{most}
 use Rattle.commands.specs.declared.Command.the-variants.{Bad}
 use Rattle.commands.specs.Lines.{shaped, Verb, verbs, choose, parseOf}
 
-not-shaped : (l w : List ℕ) (n : ℕ) → eqb (length l) (length w + 4 * n) ≡ false → shaped l w n ≡ false
+pub sized : (l w : List ℕ) (n : ℕ) → shaped l w n ≡ true → length l ≡ length w + 4 * n
 unfolding shaped
-not-shaped l w n h = not-each _ 0 h
+sized l w n h = eqb-true _ _ (each _ h 0)
 
 pub number-there : (l w : List ℕ) (n : ℕ) → shaped l w n ≡ true → (i : ℕ) → i < n → isNumber l (length w + 4 * i) ≡ true
 unfolding shaped
 number-there l w n h i q = all-at _ n i q (each _ h 2)
 
--- the verbs whose lines have n bytes
-abbrev pub sifted : ℕ → List Verb → List Verb
-sifted n [] = []
-sifted n (v ∷ vs) = pick (eqb n (length (v .word) + 4 * v .count)) (v ∷ sifted n vs) (sifted n vs)
+pub fits : (l w : List ℕ) (n m : ℕ) {t : Bool} → t ≡ shaped l w n → t ≡ true → m ≤ length w + 4 * n → m ≤ length l
+fits l w n m e h q = omega (arith, sized l w n (sym e ∙ h))
 
-sift-any : (l : List ℕ) (vs : List Verb) → choose vs l ≡ choose (sifted (length l) vs) l
-unfolding choose
-sift-any l [] = refl
-sift-any l (v ∷ vs) = go (eqb (length l) (length (v .word) + 4 * v .count)) refl (sift-any l vs)
+abbrev pub Past : List Verb → ℕ → List ℕ → Type 0
+Past vs n l = choose vs l ≡ choose (drop n vs) l
+
+-- the first of some verbs, and a test that says whether the line has its shape
+module _ (v : Verb) (vs : List Verb) (l : List ℕ) {t : Bool} (e : t ≡ shaped l (v .word) (v .count)) where
+  pub chosen : t ≡ true → choose (v ∷ vs) l ≡ v .made (numbersAt l (length l - 4 * v .count) (v .count))
+  unfolding choose
+  chosen h =
+      let at : length l - 4 * v .count ≡ length (v .word) = omega (arith, sized l (v .word) (v .count) (sym e ∙ h)) in
+      rw (choose, sym e ∙ h, at)
+
+  pub passed : t ≡ false → choose (v ∷ vs) l ≡ choose vs l
+  unfolding choose
+  passed h = rw (choose, sym e ∙ h)
+
+-- how long a verb's lines are
+abbrev pub size : Verb → ℕ
+size v = length (v .word) + 4 * v .count
+
+-- the verbs that pass a test
+abbrev pub sifted : (Verb → Bool) → List Verb → List Verb
+sifted p [] = []
+sifted p (v ∷ vs) = pick (p v) (v ∷ sifted p vs) (sifted p vs)
+
+module _ (l : List ℕ) (p : Verb → Bool) (no : (v : Verb) → p v ≡ false → shaped l (v .word) (v .count) ≡ false) where
+  sift-by : (vs : List Verb) → choose vs l ≡ choose (sifted p vs) l
+  unfolding choose
+  sift-by [] = refl
+  sift-by (v ∷ vs) = go (p v) refl (sift-by vs)
+    where
+      go
+          : (t : Bool)
+          → p v ≡ t
+          → choose vs l ≡ choose (sifted p vs) l
+          → choose (v ∷ vs) l ≡ choose (pick t (v ∷ sifted p vs) (sifted p vs)) l
+      go true e ih = ap (pick (shaped l (v .word) (v .count)) _) ih
+      go false e ih = rw (choose, no v e) ih
+
+-- a verb's lines have n bytes, as l has, and open as it does
+abbrev pub alike : List ℕ → ℕ → Verb → Bool
+alike l n v = eqb n (size v) && opens l (v .word)
+
+pub sift : (l : List ℕ) (n : ℕ) → length l ≡ n → parseOf l ≡ choose (sifted (alike l n) verbs) l
+unfolding parseOf shaped allOf
+sift l n e = sift-by l (alike l n) (λ v h. rw e (go (eqb n (size v)) (opens l (v .word)) _ h)) verbs
   where
-    go
-        : (t : Bool)
-        → eqb (length l) (length (v .word) + 4 * v .count) ≡ t
-        → choose vs l ≡ choose (sifted (length l) vs) l
-        → choose (v ∷ vs) l ≡ choose (pick t (v ∷ sifted (length l) vs) (sifted (length l) vs)) l
-    go true e ih = ap (pick (shaped l (v .word) (v .count)) _) ih
-    go false e ih = rw (choose, not-shaped l (v .word) (v .count) e) ih
+    go : (t u w : Bool) → (t && u) ≡ false → (t && (u && w)) ≡ false
+    go true true w h = absurd (true≢false h)
+    go true false w h = refl
+    go false u w h = refl
 
-pub sift : (l : List ℕ) (n : ℕ) → length l ≡ n → parseOf l ≡ choose (sifted n verbs) l
-unfolding parseOf
-sift l n e = sift-any l verbs ∙ ap (λ (k : ℕ). choose (sifted k verbs) l) e
-
-pub bad-length
-    : (l : List ℕ)
-    → (length l ≡ 8 → ⊥)
-    → (length l ≡ 9 → ⊥)
-    → (length l ≡ 11 → ⊥)
-    → (length l ≡ 12 → ⊥)
-    → (length l ≡ 14 → ⊥)
-    → (length l ≡ 15 → ⊥)
-    → (length l ≡ 33 → ⊥)
-    → parseOf l ≡ Bad
-unfolding choose verbs
-bad-length l a b c d e f g =
-    sift l (length l) refl
-    ∙ rw (
-      ne-eqb (length l) 8 a,
-      ne-eqb (length l) 9 b,
-      ne-eqb (length l) 11 c,
-      ne-eqb (length l) 12 d,
-      ne-eqb (length l) 14 e,
-      ne-eqb (length l) 15 f,
-      ne-eqb (length l) 33 g,
-    )
-
-pub long-bad : (l : List ℕ) → 33 < length l → parseOf l ≡ Bad
+pub long-bad : (l : List ℕ) → 64 < length l → parseOf l ≡ Bad
+unfolding parseOf choose verbs shaped
 long-bad l h =
-    bad-length l (λ e. omega arith) (λ e. omega arith) (λ e. omega arith) (λ e. omega arith) (λ e. omega arith)
-    (λ e. omega arith) (λ e. omega arith)
+    sift-by l (λ v. ltb 64 (size v))
+    (λ v q.
+    let s : size v ≤ 64 = ltb-false _ _ q in
+    not-each _ 0 (ne-eqb (length l) (size v) (λ e. omega arith))) verbs
 
 pub kept-enough : (l : List ℕ) → parseOf (take most l) ≡ parseOf l
 kept-enough l =

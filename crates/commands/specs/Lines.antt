@@ -2,10 +2,13 @@
 -- Assumes nothing.
 --   shaped l w n    the line is the word w and n numbers
 --   Verb            a word, how many numbers follow it, and the command that they make
---   verbs           all verbs, by the length of their lines
+--   questions       the verbs that ask about two slots
+--   filings         those that fill or free a slot or a place, then the questions
+--   events          those of the four events, then the filings
+--   verbs           all verbs, in the order of document 01: start, then the events
 --   choose vs l     the command of the first verb whose line l is; `Bad` where there is none
 --   parseOf l       the command of a line; `Bad` for a line of any other shape
---   setupFrom ns, setupAt l   the setup that seven numbers make; that of a start line
+--   setupFrom ns    the setup that seven numbers make
 --   callOf c        the call that a command asks for; none for `Bad`
 use Prim.Native.Nat.{ℕ, _+_, _*_}
 use mathlib.Core.Bool.{Bool}
@@ -56,19 +59,29 @@ setupFrom ns =
       ahead = byte ns 6;
     }
 
-unfoldable pub verbs : List Verb
-verbs =
+abbrev pub questions : List Verb
+questions =
+    (record { word = ascii "before"; count = 2; made = λ ns. Before (byte ns 0) (byte ns 1) })
+    ∷ (record { word = ascii "compare"; count = 2; made = λ ns. Compare (byte ns 0) (byte ns 1) })
+    ∷ []
+
+abbrev pub filings : List Verb
+filings =
     (record { word = ascii "keep"; count = 1; made = λ ns. Keep (byte ns 0) })
     ∷ (record { word = ascii "drop"; count = 1; made = λ ns. Drop (byte ns 0) })
-    ∷ (record { word = ascii "local"; count = 1; made = λ ns. Local (byte ns 0) })
-    ∷ (record { word = ascii "reset"; count = 1; made = λ ns. Reset (byte ns 0) })
     ∷ (record { word = ascii "discard"; count = 1; made = λ ns. Discard (byte ns 0) })
+    ∷ questions
+
+abbrev pub events : List Verb
+events =
+    (record { word = ascii "local"; count = 1; made = λ ns. Local (byte ns 0) })
     ∷ (record { word = ascii "send"; count = 2; made = λ ns. Send (byte ns 0) (byte ns 1) })
-    ∷ (record { word = ascii "before"; count = 2; made = λ ns. Before (byte ns 0) (byte ns 1) })
     ∷ (record { word = ascii "receive"; count = 2; made = λ ns. Receive (byte ns 0) (byte ns 1) })
-    ∷ (record { word = ascii "compare"; count = 2; made = λ ns. Compare (byte ns 0) (byte ns 1) })
-    ∷ (record { word = ascii "start"; count = 7; made = λ ns. Start (setupFrom ns) })
-    ∷ []
+    ∷ (record { word = ascii "reset"; count = 1; made = λ ns. Reset (byte ns 0) })
+    ∷ filings
+
+unfoldable pub verbs : List Verb
+verbs = (record { word = ascii "start"; count = 7; made = λ ns. Start (setupFrom ns) }) ∷ events
 
 unfoldable pub choose : List Verb → List ℕ → Command
 choose [] l = Bad
@@ -77,9 +90,6 @@ choose (v ∷ vs) l =
 
 unfoldable pub parseOf : List ℕ → Command
 parseOf l = choose verbs l
-
-abbrev pub setupAt : List ℕ → Setup
-setupAt l = setupFrom (numbersAt l 5 7)
 
 abbrev pub callOf : Command → Option Call
 callOf (Start s) = some (start s)

@@ -1,8 +1,9 @@
 // A line of the listing is read into a command: a verb, then numbers of exactly three digits, with single spaces.
 ghost use mathlib.Core.Path.{_≡_};
-ghost use Prim.Native.Nat.{_+_, _*_, _≤_};
+ghost use Prim.Native.Nat.{_+_, _*_, _-_, _≤_, _<_};
 ghost use lib.ListN.{length};
-ghost use Rattle.commands.specs.Lines.{shaped, setupAt, parseOf};
+ghost use Rattle.text.specs.Digits.{numberAt, numbersAt};
+ghost use Rattle.commands.specs.Lines.{shaped, setupFrom, questions, filings, events, choose, parseOf};
 use rules::Setup;
 
 // What a line asks for. The numbers are wide, so that 256 reaches the check that refuses it.
@@ -20,125 +21,96 @@ pub enum Command {
     Bad,
 }
 
-// Whether a line of the right length is a word and then some numbers.
-fn is_shaped(line: &[u8], word: &[u8], n: usize) -> bool
-    requires { ⌜ (length (now line) ≡ length (now word) + 4 * n) × (n ≤ 7) ⌝ }
-    ensures { λ r. ⌜ r ≡ shaped (now (line .entry)) (now (word .entry)) n ⌝ }
+// Whether a line is a word and then so many numbers.
+fn is_line(line: &[u8], word: &[u8], count: usize) -> bool
+    requires { ⌜ count ≤ 7 ⌝ }
+    ensures { λ r. ⌜ r ≡ shaped (now (line .entry)) (now (word .entry)) count ⌝ }
 {
+    if line.len() != word.len() + 4 * count {
+        return false;
+    }
     if !text::starts_with(line, word) {
         return false;
     }
-    text::are_numbers(line, word.len(), n)
+    text::are_numbers(line, word.len(), count)
 }
 
-// The numbers of a start line.
+// The nth number, counted from 0, of so many that end a line.
+fn number(line: &[u8], nth: usize, count: usize) -> usize
+    requires { ⌜ (nth < count) × (4 * count ≤ length (now line)) ⌝ }
+    ensures { λ r. ⌜ r ≡ numberAt (now (line .entry)) (length (now (line .entry)) - 4 * count + 4 * nth) ⌝ }
+{
+    text::number(line, line.len() - 4 * count + 4 * nth)
+}
+
+// The setup that the seven numbers of a line make.
 fn setup_of(line: &[u8]) -> Setup
-    requires { ⌜ length (now line) ≡ 33 ⌝ }
-    ensures { λ r. ⌜ r ≡ setupAt (now (line .entry)) ⌝ }
+    requires { ⌜ 4 * 7 ≤ length (now line) ⌝ }
+    ensures { λ r. ⌜ r ≡ setupFrom (numbersAt (now (line .entry)) (length (now (line .entry)) - 4 * 7) 7) ⌝ }
 {
     Setup {
-        desks: text::number(line, 5),
-        phases: text::number(line, 9),
-        clocks: text::number(line, 13),
-        seatLag: text::number(line, 17),
-        shelfLag: text::number(line, 21),
-        back: text::number(line, 25),
-        ahead: text::number(line, 29),
+        desks: number(line, 0, 7),
+        phases: number(line, 1, 7),
+        clocks: number(line, 2, 7),
+        seatLag: number(line, 3, 7),
+        shelfLag: number(line, 4, 7),
+        back: number(line, 5, 7),
+        ahead: number(line, 6, 7),
     }
 }
 
-// A line's length leaves at most two verbs; a verb's numbers begin where it ends.
-fn parse_8(line: &[u8]) -> Command
-    requires { ⌜ length (now line) ≡ 8 ⌝ }
-    ensures { λ r. ⌜ r ≡ parseOf (now (line .entry)) ⌝ }
+// A row of the definition's table is one test here, in the table's order; a line that a group does not know is left to the next.
+fn parse_questions(line: &[u8]) -> Command
+    ensures { λ r. ⌜ r ≡ choose questions (now (line .entry)) ⌝ }
 {
-    if is_shaped(line, b"keep", 1) {
-        return Command::Keep(text::number(line, 4));
+    if is_line(line, b"before", 2) {
+        return Command::Before(number(line, 0, 2), number(line, 1, 2));
     }
-    if is_shaped(line, b"drop", 1) {
-        return Command::Drop(text::number(line, 4));
+    if is_line(line, b"compare", 2) {
+        return Command::Compare(number(line, 0, 2), number(line, 1, 2));
     }
     Command::Bad
 }
 
-fn parse_9(line: &[u8]) -> Command
-    requires { ⌜ length (now line) ≡ 9 ⌝ }
-    ensures { λ r. ⌜ r ≡ parseOf (now (line .entry)) ⌝ }
+// The filings, then the questions.
+fn parse_filings(line: &[u8]) -> Command
+    ensures { λ r. ⌜ r ≡ choose filings (now (line .entry)) ⌝ }
 {
-    if is_shaped(line, b"local", 1) {
-        return Command::Local(text::number(line, 5));
+    if is_line(line, b"keep", 1) {
+        Command::Keep(number(line, 0, 1))
+    } else if is_line(line, b"drop", 1) {
+        Command::Drop(number(line, 0, 1))
+    } else if is_line(line, b"discard", 1) {
+        Command::Discard(number(line, 0, 1))
+    } else {
+        parse_questions(line)
     }
-    if is_shaped(line, b"reset", 1) {
-        return Command::Reset(text::number(line, 5));
-    }
-    Command::Bad
 }
 
-fn parse_11(line: &[u8]) -> Command
-    requires { ⌜ length (now line) ≡ 11 ⌝ }
-    ensures { λ r. ⌜ r ≡ parseOf (now (line .entry)) ⌝ }
+// The four events, then the filings.
+fn parse_events(line: &[u8]) -> Command
+    ensures { λ r. ⌜ r ≡ choose events (now (line .entry)) ⌝ }
 {
-    if is_shaped(line, b"discard", 1) {
-        return Command::Discard(text::number(line, 7));
+    if is_line(line, b"local", 1) {
+        Command::Local(number(line, 0, 1))
+    } else if is_line(line, b"send", 2) {
+        Command::Send(number(line, 0, 2), number(line, 1, 2))
+    } else if is_line(line, b"receive", 2) {
+        Command::Receive(number(line, 0, 2), number(line, 1, 2))
+    } else if is_line(line, b"reset", 1) {
+        Command::Reset(number(line, 0, 1))
+    } else {
+        parse_filings(line)
     }
-    Command::Bad
-}
-
-fn parse_12(line: &[u8]) -> Command
-    requires { ⌜ length (now line) ≡ 12 ⌝ }
-    ensures { λ r. ⌜ r ≡ parseOf (now (line .entry)) ⌝ }
-{
-    if is_shaped(line, b"send", 2) {
-        return Command::Send(text::number(line, 4), text::number(line, 8));
-    }
-    Command::Bad
-}
-
-fn parse_14(line: &[u8]) -> Command
-    requires { ⌜ length (now line) ≡ 14 ⌝ }
-    ensures { λ r. ⌜ r ≡ parseOf (now (line .entry)) ⌝ }
-{
-    if is_shaped(line, b"before", 2) {
-        return Command::Before(text::number(line, 6), text::number(line, 10));
-    }
-    Command::Bad
-}
-
-fn parse_15(line: &[u8]) -> Command
-    requires { ⌜ length (now line) ≡ 15 ⌝ }
-    ensures { λ r. ⌜ r ≡ parseOf (now (line .entry)) ⌝ }
-{
-    if is_shaped(line, b"receive", 2) {
-        return Command::Receive(text::number(line, 7), text::number(line, 11));
-    }
-    if is_shaped(line, b"compare", 2) {
-        return Command::Compare(text::number(line, 7), text::number(line, 11));
-    }
-    Command::Bad
-}
-
-fn parse_33(line: &[u8]) -> Command
-    requires { ⌜ length (now line) ≡ 33 ⌝ }
-    ensures { λ r. ⌜ r ≡ parseOf (now (line .entry)) ⌝ }
-{
-    if is_shaped(line, b"start", 7) {
-        return Command::Start(setup_of(line));
-    }
-    Command::Bad
 }
 
 // The command of a line: a line of any other shape is a BadLine.
 pub fn parse(line: &[u8]) -> Command
     ensures { λ r. ⌜ r ≡ parseOf (now (line .entry)) ⌝ }
 {
-    match line.len() {
-        8 => parse_8(line),
-        9 => parse_9(line),
-        11 => parse_11(line),
-        12 => parse_12(line),
-        14 => parse_14(line),
-        15 => parse_15(line),
-        33 => parse_33(line),
-        _ => Command::Bad,
+    if is_line(line, b"start", 7) {
+        Command::Start(setup_of(line))
+    } else {
+        parse_events(line)
     }
 }

@@ -1,21 +1,27 @@
 -- `commands::parse` meets its contract. Assumes nothing.
-use Rattle.commands.proofs.Shapes.{bad-length}
-use mathlib.Core.Path.{sym}
+use Rattle.commands.specs.Lines.{verbs, parseOf}
+use Rattle.commands.proofs.Shapes.{fits, chosen, passed}
+use native.Mathlib.Omega.{arith}
+use mathlib.Core.Path.{sym, _∙_}
 use borrow.Author.Needs.{needs}
 use Rattle.commands.proofs.parse.Statement.{statement}
 use Rattle.commands.proofs.parse.Tie as tie
 
-returns-8 : tie.Need-returns-8
-returns-8 c =
-    let r = c .match .rest in
-    sym
-    (bad-length (c .before .before .args .line .now) (r .0 .0 .0 .0 .0 .0 .1) (r .0 .0 .0 .0 .0 .1) (r .0 .0 .0 .0 .1)
-    (r .0 .0 .0 .1) (r .0 .0 .1) (r .0 .1) (r .1))
+returns : tie.Need-returns
+unfolding parseOf verbs
+returns c =
+    let t = c .before in
+    rw (c .setup-of .ensures) (sym (chosen _ _ _ (t .before .is-line .ensures) (t .if1 .taken)))
+
+returns-2 : tie.Need-returns-2
+unfolding parseOf verbs
+returns-2 c =
+    let t = c .before in
+    c .parse-events .ensures ∙ sym (passed _ _ _ (t .before .is-line .ensures) (t .if1 .left))
 
 pub parse-spec : {M : Type 1} → statement M
 parse-spec =
     tie.close
     (tie.spec
-    (λ c κs. search needs) (λ c κs. search needs) (λ c κs. search needs) (λ c κs. search needs) (λ c κs. search needs)
-    (λ c κs. search needs) (λ c κs. search needs) (λ c. search needs) (λ c. search needs) (λ c. search needs) (λ c. search needs)
-    (λ c. search needs) (λ c. search needs) (λ c. search needs) returns-8)
+    (λ c. search needs) (λ c κs. search needs) (λ c κs. fits _ _ _ _ (c .before .is-line .ensures) (c .if1 .taken) (omega arith))
+    (λ c κs. search needs) returns returns-2)

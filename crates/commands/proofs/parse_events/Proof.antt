@@ -1,0 +1,72 @@
+-- `commands::parse_events` meets its contract. Assumes nothing.
+use Prim.Native.Nat.{ℕ}
+use mathlib.Core.Path.{sym, _∙_}
+use mathlib.Core.List.{List}
+use native.Mathlib.Omega.{arith}
+use borrow.Author.Needs.{needs}
+use Rattle.tools.specs.Lists.{tab}
+use Rattle.commands.specs.Lines.{events}
+use Rattle.commands.proofs.Shapes.{Past, fits, chosen, passed}
+use Rattle.commands.proofs.parse_events.Statement.{statement}
+use Rattle.commands.proofs.parse_events.Tie as tie
+
+abbrev line : tie.Else1 → List ℕ
+line c = c .before .before .before .before .args .line .now
+
+past-1 : (c : tie.Else1) → Past events 1 (line c)
+past-1 c = passed _ _ _ (c .before .is-line .ensures) (c .if1 .left)
+
+past-2 : (c : tie.Else2) → Past events 2 (line (c .before .before .before))
+past-2 c = past-1 (c .before .before .before) ∙ passed _ _ _ (c .before .is-line2 .ensures) (c .if2 .left)
+
+past-3 : (c : tie.Else3) → Past events 3 (line (c .before .before .before .before .before .before))
+past-3 c = past-2 (c .before .before .before) ∙ passed _ _ _ (c .before .is-line3 .ensures) (c .if3 .left)
+
+past-4 : (c : tie.Else4) → Past events 4 (line (c .before .before .before .before .before .before .before .before .before))
+past-4 c = past-3 (c .before .before .before) ∙ passed _ _ _ (c .before .is-line4 .ensures) (c .if4 .left)
+
+returns : tie.Need-returns
+unfolding tab
+returns c =
+    let t = c .before in
+    rw (c .number .ensures) (sym (chosen _ _ _ (t .before .is-line .ensures) (t .if1 .taken)))
+
+returns-2 : tie.Need-returns-2
+unfolding tab
+returns-2 c =
+    let t = c .before .before in
+    rw (c .before .number2 .ensures, c .number3 .ensures)
+    (sym (past-1 (t .before .before .before) ∙ chosen _ _ _ (t .before .is-line2 .ensures) (t .if2 .taken)))
+
+returns-3 : tie.Need-returns-3
+unfolding tab
+returns-3 c =
+    let t = c .before .before in
+    rw (c .before .number4 .ensures, c .number5 .ensures)
+    (sym (past-2 (t .before .before .before) ∙ chosen _ _ _ (t .before .is-line3 .ensures) (t .if3 .taken)))
+
+returns-4 : tie.Need-returns-4
+unfolding tab
+returns-4 c =
+    let t = c .before in
+    rw (c .number6 .ensures)
+    (sym (past-3 (t .before .before .before) ∙ chosen _ _ _ (t .before .is-line4 .ensures) (t .if4 .taken)))
+
+returns-5 : tie.Need-returns-5
+returns-5 c = c .parse-filings .ensures ∙ sym (past-4 (c .before))
+
+pub parse-events-spec : {M : Type 1} → statement M
+parse-events-spec =
+    tie.close
+    (tie.spec
+    (λ c. search needs) (λ c κs. search needs)
+    (λ c κs. (omega arith, fits _ _ _ _ (c .before .is-line .ensures) (c .if1 .taken) (omega arith)))
+    (λ c. search needs) (λ c κs. search needs)
+    (λ c κs. (omega arith, fits _ _ _ _ (c .before .is-line2 .ensures) (c .if2 .taken) (omega arith)))
+    (λ c κs. (omega arith, fits _ _ _ _ (c .before .before .is-line2 .ensures) (c .before .if2 .taken) (omega arith)))
+    (λ c. search needs) (λ c κs. search needs)
+    (λ c κs. (omega arith, fits _ _ _ _ (c .before .is-line3 .ensures) (c .if3 .taken) (omega arith)))
+    (λ c κs. (omega arith, fits _ _ _ _ (c .before .before .is-line3 .ensures) (c .before .if3 .taken) (omega arith)))
+    (λ c. search needs) (λ c κs. search needs)
+    (λ c κs. (omega arith, fits _ _ _ _ (c .before .is-line4 .ensures) (c .if4 .taken) (omega arith)))
+    (λ c κs. search needs) returns returns-2 returns-3 returns-4 returns-5)
