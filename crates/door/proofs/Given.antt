@@ -7,17 +7,15 @@ use mathlib.Core.List.{List, [], _∷_}
 use borrow.Author.Tests.{ne-eqb, lt-ltb, le-ltb}
 use lib.Dec.{eqb, ltb}
 use lib.ListN.{length}
-use Rattle.tools.specs.Tests.{pick}
 use Rattle.rules.specs.declared.Stamp.{Stamp}
 use Rattle.rules.specs.declared.Stamped.{Stamped}
 use Rattle.rules.specs.declared.Posted.{Posted}
 use Rattle.rules.specs.declared.Posted.the-variants as Posts
-use Rattle.rules.specs.Model.{Value, nothing, Answer, refusal, accepted}
+use Rattle.rules.specs.Model.{Value, nothing, slot, Answer, refusal, accepted}
 use Rattle.rules.specs.Replies.{rowOf, stampedSays, postedSays}
 use Rattle.book.specs.Stamps.{writeStamp, filled}
-use Rattle.book.specs.Answers.{recordIn}
 use Rattle.parts.proofs.Lent.{filled-none}
-use Rattle.door.specs.Door.{tooShort, orNoRoom, cramped, given, byteIn}
+use Rattle.door.specs.Door.{byteIn, Lent, lent, byteTo, recordTo, short, orNoRoom, cramped, Fills, Gives}
 
 -- the number with NoRoom as one more reason
 pub room-lacks : (q : Bool) (n : ℕ) → (q && (eqb n 0 || ltb 15 n)) ≡ true → 15 ≡ cramped q (refusal n) .number
@@ -30,82 +28,76 @@ unfolding orNoRoom
 room-enough true n e = rw (orNoRoom, e)
 room-enough false n e = refl
 
--- one byte v, in a buffer that has none and in one that has some
-abbrev Gave : List ℕ → ℕ → ℕ → List ℕ → Type 0
-Gave t v r l = (r ≡ cramped (tooShort 1 t) (refusal 0) .number) × (l ≡ pick (tooShort 1 t) t (filled t (v ∷ [])))
+-- a buffer as it was has no bytes in front
+pub as-it-was : (t : List ℕ) → t ≡ filled t []
+as-it-was t = sym (filled-none t)
 
-pub byte-short : (t : List ℕ) (v : ℕ) → length t < 1 → Gave t v 15 t
+module _ (ls : List Lent) (a : Answer) (r : ℕ) where
+  -- one of the buffers is too short, and all are as they were
+  pub no-room : short ls ≡ true → r ≡ orNoRoom (a .number) → Fills ls nothing → Gives a ls r
+  no-room q h k = record { number = rw q h; buffers = rw q k }
+
+  -- all are long enough
+  pub has-room : short ls ≡ false → r ≡ a .number → Fills ls (a .value) → Gives a ls r
+  has-room q h k = record { number = rw q h; buffers = rw q k }
+
+  -- a refusal, whether they are or not
+  pub refused : (n : ℕ) → a ≡ refusal n → r ≡ cramped (short ls) (refusal n) .number → Fills ls nothing → Gives a ls r
+  refused n e h k = subst (λ (b : Answer). Gives b ls r) (sym e) (record { number = h; buffers = go (short ls) })
+    where
+      go : (q : Bool) → Fills ls (cramped q (refusal n) .value)
+      go true = k
+      go false = k
+
+-- one byte, in a buffer that has none and in one that has some
+pub byte-short : (t : List ℕ) (v : ℕ) → length t < 1 → Gives (accepted (slot v)) (byteTo t t ∷ []) 15
 unfolding orNoRoom
-byte-short t v l = rw (lt-ltb (length t) 1 l) (refl, refl)
+byte-short t v l = no-room (byteTo t t ∷ []) _ 15 (lt-ltb (length t) 1 l) refl (as-it-was t, tt)
 
-pub byte-given : (t : List ℕ) (v : ℕ) (l : List ℕ) → 1 ≤ length t → l ≡ filled t (v ∷ []) → Gave t v 0 l
-byte-given t v l m e = rw (le-ltb (length t) 1 m) (refl, e)
+pub byte-given : (t : List ℕ) (v : ℕ) (l : List ℕ) → 1 ≤ length t → l ≡ filled t (v ∷ []) → Gives (accepted (slot v)) (byteTo t l ∷ []) 0
+byte-given t v l m e = has-room (byteTo t l ∷ []) _ 0 (le-ltb (length t) 1 m) refl (e, tt)
 
--- the number r and the buffer l are due to a call that is answered a, with the buffer t lent to it
-abbrev pub Due : (Value → List ℕ) → List ℕ → Bool → Answer → ℕ → List ℕ → Type 0
-Due f t q a r l = (r ≡ cramped q a .number) × (l ≡ given f t q a)
+-- a value whose bytes f are one byte, given as a slot is
+pub byte-as : (f : Value → List ℕ) → f nothing ≡ [] → (t l : List ℕ) (r : ℕ) (v : Value) (a : Answer) → a ≡ accepted v
+    → (u : ℕ) → u ∷ [] ≡ f v → Gives (accepted (slot u)) (byteTo t l ∷ []) r → Gives a (lent 1 f t l ∷ []) r
+byte-as f none t l r v a e u x g =
+    let q = short (byteTo t l ∷ []) in
+    subst (λ (b : Answer). Gives b (lent 1 f t l ∷ []) r) (sym e)
+    (record { number = g .number ∙ number q; buffers = (g .buffers .0 ∙ ap (filled t) (bytes q), tt) })
+  where
+    number : (q : Bool) → cramped q (accepted (slot u)) .number ≡ cramped q (accepted v) .number
+    number true = refl
+    number false = refl
 
-module _ (f : Value → List ℕ) (none : f nothing ≡ []) (t : List ℕ) where
-  pub as-it-was : t ≡ filled t (f nothing)
-  as-it-was = sym (ap (filled t) none ∙ filled-none t)
-
-  -- a refusal
-  pub left-refused : (q : Bool) (n : ℕ) (a : Answer) → a ≡ refusal n → (r : ℕ) → r ≡ cramped q (refusal n) .number → Due f t q a r t
-  left-refused q n a e r h = subst (λ (b : Answer). Due f t q b r t) (sym e) (h, go q)
-    where
-      go : (q : Bool) → t ≡ given f t q (refusal n)
-      go true = as-it-was
-      go false = as-it-was
-
-  pub byte-refused : (n : ℕ) (a : Answer) → a ≡ refusal n → (r : ℕ) → r ≡ cramped (tooShort 1 t) (refusal n) .number
-      → Due f t (tooShort 1 t) a r t
-  byte-refused = left-refused (tooShort 1 t)
-
-  -- an acceptance, whose value is the byte u
-  pub byte-accepted : (v : Value) (a : Answer) → a ≡ accepted v → (u w : ℕ) → f v ≡ u ∷ [] → w ≡ u → (r : ℕ) (l : List ℕ)
-      → Gave t w r l → Due f t (tooShort 1 t) a r l
-  byte-accepted v a e u w x h r l d =
-      subst (λ (b : Answer). Due f t (tooShort 1 t) b r l) (sym e)
-      (d .0 ∙ number (tooShort 1 t), d .1 ∙ ap (λ (y : ℕ). pick (tooShort 1 t) t (filled t (y ∷ []))) h ∙ bytes (tooShort 1 t))
-    where
-      number : (q : Bool) → cramped q (refusal 0) .number ≡ cramped q (accepted v) .number
-      number true = refl
-      number false = refl
-
-      bytes : (q : Bool) → pick q t (filled t (u ∷ [])) ≡ given f t q (accepted v)
-      bytes true = as-it-was
-      bytes false = ap (filled t) (sym x)
+    bytes : (q : Bool) → byteIn (cramped q (accepted (slot u)) .value) ≡ f (cramped q (accepted v) .value)
+    bytes true = sym none
+    bytes false = x
 
 -- the stamp of a refused event, and of an accepted one
-module _ (x : Stamped) (D : ℕ) (t : List ℕ) where
-  abbrev Stamps : ℕ → List ℕ → Type 0
-  Stamps r l = (r ≡ stampedSays x .number) × (l ≡ filled t (recordIn D (stampedSays x .value)))
-
-  pub stamp-refused : (x .number ≡ 0 → ⊥) → Stamps (x .number) t
+module _ (x : Stamped) (D : ℕ) (t : List ℕ) (fit : 20 ≤ length t) where
+  pub stamp-refused : (x .number ≡ 0 → ⊥) → Gives (stampedSays x) (recordTo D t t ∷ []) (x .number)
   unfolding stampedSays
-  stamp-refused ne = rw (ne-eqb (x .number) 0 ne) (refl, as-it-was (recordIn D) refl t)
+  stamp-refused ne =
+      let e = ne-eqb (x .number) 0 ne in
+      has-room _ _ _ (le-ltb (length t) 20 fit) (rw e) (rw e (as-it-was t, tt))
 
   pub stamp-given : x .number ≡ 0 → (l : List ℕ)
-      → l ≡ filled t (writeStamp D (record { owner = x .stamp .owner; row = rowOf (x .stamp .row) })) → Stamps 0 l
+      → l ≡ filled t (writeStamp D (record { owner = x .stamp .owner; row = rowOf (x .stamp .row) }))
+      → Gives (stampedSays x) (recordTo D t l ∷ []) 0
   unfolding stampedSays
-  stamp-given e l h = rw e (refl, h)
+  stamp-given e l h = has-room _ _ _ (le-ltb (length t) 20 fit) (rw e) (rw e (h, tt))
 
 -- the stamp and the place of a refused send, and of an accepted one
-module _ (m : Posted) (x : Stamp) (D : ℕ) (t u : List ℕ) where
-  abbrev Sends : Posted → ℕ → List ℕ → List ℕ → Type 0
-  Sends m r l k =
-      (r ≡ postedSays m x .number)
-      × ((l ≡ filled t (recordIn D (postedSays m x .value))) × (k ≡ filled u (byteIn (postedSays m x .value))))
+module _ (m : Posted) (x : Stamp) (D : ℕ) (t u : List ℕ) (fit : (20 ≤ length t) × (1 ≤ length u)) where
+  both-fit : (ltb (length u) 1 || ltb (length t) 20) ≡ false
+  both-fit = rw (le-ltb (length u) 1 (fit .1), le-ltb (length t) 20 (fit .0))
 
-  pub sent-refused : (n : ℕ) → m ≡ Posts.Refused n → Sends m n t u
-  sent-refused n e =
-      subst (λ (m : Posted). Sends m n t u) (sym e) (refl, (as-it-was (recordIn D) refl t, as-it-was byteIn refl u))
+  pub sent-refused : (n : ℕ) → m ≡ Posts.Refused n → Gives (postedSays m x) (recordTo D t t ∷ byteTo u u ∷ []) n
+  sent-refused n e = rw e (has-room _ _ n both-fit refl (as-it-was t, (as-it-was u, tt)))
 
-  pub sent-given : (p : ℕ) → m ≡ Posts.At p → 1 ≤ length u → (r : ℕ) (l k : List ℕ)
-      → l ≡ filled t (writeStamp D (record { owner = x .owner; row = rowOf (x .row) })) → Gave u p r k → Sends m r l k
-  sent-given p e fit r l k h g =
-      let q = le-ltb (length u) 1 fit in
-      subst (λ (m : Posted). Sends m r l k) (sym e) (
-        g .0 ∙ ap (λ (z : Bool). cramped z (refusal 0) .number) q,
-        (h, g .1 ∙ ap (λ (z : Bool). pick z u (filled u (p ∷ []))) q),
-      )
+  pub sent-given : (p : ℕ) → m ≡ Posts.At p → (r : ℕ) (l k : List ℕ)
+      → l ≡ filled t (writeStamp D (record { owner = x .owner; row = rowOf (x .row) })) → Gives (accepted (slot p)) (byteTo u k ∷ []) r
+      → Gives (postedSays m x) (recordTo D t l ∷ byteTo u k ∷ []) r
+  sent-given p e r l k h g =
+      let q = le-ltb (length u) 1 (fit .1) in
+      rw e (has-room _ _ r both-fit (rw q at (g .number)) (h, (rw q at (g .buffers .0), tt)))

@@ -1,21 +1,26 @@
--- The C interface: a call's value goes into a buffer that the caller lends, and a buffer too short is one more reason.
+-- The C interface: a call's value goes into buffers that the caller lends, and a buffer too short is one more reason.
 -- Assumes nothing.
 --   setupBy D P L M A m n   the setup of the seven numbers
---   tooShort n t     the lent buffer t has fewer than n bytes
---   eitherShort t u  the buffer t is too short for a stamp record, or u for a place
+--   relationByte r   the byte of a relation
+--   byteIn v         the one byte of a value that is a place, a slot, a yes or no, or a relation; none with any other value
+--   whichByte w      the byte of one of two records, or of neither
+--   whichIn v        the byte of the newest of two records that a value relates; none with any other value
+--   lent n f t t′    a buffer that the caller lends for a value: n bytes it must have, f are the value's, t is the whole buffer
+--                    before the call and t′ afterwards
+--   byteTo t t′, whichTo t t′, rowTo t t′   the buffer is lent for a byte, for the newest of two records, for sixteen row bytes
+--   recordTo D t t′  the buffer is lent for a stamp record with the number D of desks
+--   stampTo s t t′   the buffer is lent for a stamp record with the D of the book s
+--   short ls         one of the lent buffers ls is too short
 --   orNoRoom n       NoRoom or the number n, whichever is smaller; 0 is no reason
 --   cramped q a      the answer a to a call, with NoRoom as one more reason where q holds: a lent buffer is too short
---   bookBy q s c     the bytes that the act c leaves of the book s: the same ones where q holds
---   given f t q a    the lent buffer t after a call that is answered cramped q a: in front the bytes f of its value
---   relationByte r   the byte of a relation
---   one n            the byte n
---   byteIn v         the one byte of the place, slot, yes or no, or relation in a value
---   stampIn s v      the record of the stamp in a value, with the D of the book s; none where it has none
---   whichByte w      the byte of one of two records, or of neither
---   whichIn v        the byte of the newest of two records that a value relates; none where it relates none
+--   Fills ls v       each of the lent buffers ls has the value's bytes in front, and the rest as it was
+--   Gives a ls n     what a caller gets who lends ls and is answered a: the number n, and every byte of ls
+--   Makes c s s′ ls n   what a caller gets who lends ls to the call c on the book s: the same, and every byte s′ of the book,
+--                    which is as it was where one of ls is too short
 use Prim.Native.Nat.{ℕ}
-use mathlib.Core.Bool.{Bool, _||_}
-use mathlib.Core.List.{List, [], _∷_, _++_}
+use mathlib.Core.Path.{_≡_}
+use mathlib.Core.Bool.{Bool, false, _||_}
+use mathlib.Core.List.{List, [], _∷_}
 use lib.Dec.{ltb, eqb}
 use lib.ListN.{length}
 use Rattle.tools.specs.Tests.{pick}
@@ -24,34 +29,16 @@ use Rattle.rules.specs.declared.Setup.{Setup}
 use Rattle.rules.specs.declared.Relation.{Relation}
 use Rattle.rules.specs.declared.Relation.the-variants.{Before, After, Same, Concurrent, Crossed}
 use Rattle.rules.specs.Numbers.{NoRoom, number}
-use Rattle.rules.specs.Model.{Act, Value, Answer, refusal}
-use Rattle.rules.specs.Calls.{on}
+use Rattle.rules.specs.Model.{Value, nothing, stamp, sent, slot, says, relates, shows, Answer, refusal}
+use Rattle.rules.specs.Calls.{Call}
 use Rattle.rules.specs.Labels.{Which, First, Second, Neither, newer}
 use Rattle.book.specs.Codec.{decode}
 use Rattle.book.specs.Stamps.{filled}
-use Rattle.book.specs.Answers.{bookAfter, recordIn}
+use Rattle.book.specs.Answers.{answerTo, bookAfter, partIn, recordIn}
 
 abbrev pub setupBy : ℕ → ℕ → ℕ → ℕ → ℕ → ℕ → ℕ → Setup
 setupBy D P L M A m n =
     record { desks = D; phases = P; clocks = L; seatLag = M; shelfLag = A; back = m; ahead = n }
-
-abbrev pub tooShort : ℕ → List ℕ → Bool
-tooShort n t = ltb (length t) n
-
-abbrev pub eitherShort : List ℕ → List ℕ → Bool
-eitherShort t u = tooShort 20 t || tooShort 1 u
-
-unfoldable pub orNoRoom : ℕ → ℕ
-orNoRoom n = pick (eqb n 0 || ltb (number NoRoom) n) (number NoRoom) n
-
-abbrev pub cramped : Bool → Answer → Answer
-cramped q a = pick q (refusal (orNoRoom (a .number))) a
-
-abbrev pub bookBy : Bool → List ℕ → Act → List ℕ
-bookBy q s c = pick q s (bookAfter s (on c))
-
-abbrev pub given : (Value → List ℕ) → List ℕ → Bool → Answer → List ℕ
-given f t q a = filled t (f (cramped q a .value))
 
 abbrev pub relationByte : Relation → ℕ
 relationByte Before = 1
@@ -68,13 +55,56 @@ byteIn v =
     listed one (v .place) ++ listed one (v .slot) ++ listed (λ t. one (pick t 1 0)) (v .verdict)
     ++ listed (λ r. one (relationByte r)) (v .relation)
 
-abbrev pub stampIn : List ℕ → Value → List ℕ
-stampIn s v = recordIn (decode s .setup .desks) v
-
 abbrev pub whichByte : Which → ℕ
 whichByte First = 1
 whichByte Second = 2
 whichByte Neither = 0
 
 abbrev pub whichIn : Value → List ℕ
-whichIn v = listed (λ r. one (whichByte (newer r))) (v .relation)
+whichIn nothing = []
+whichIn (stamp j r) = []
+whichIn (sent p j r) = []
+whichIn (slot s) = []
+whichIn (says t) = []
+whichIn (relates r) = whichByte (newer r) ∷ []
+whichIn (shows r) = []
+
+pub data Lent : Type 0 where
+  lent : ℕ → (Value → List ℕ) → List ℕ → List ℕ → Lent
+
+abbrev pub byteTo : List ℕ → List ℕ → Lent
+byteTo = lent 1 byteIn
+
+abbrev pub whichTo : List ℕ → List ℕ → Lent
+whichTo = lent 1 whichIn
+
+abbrev pub rowTo : List ℕ → List ℕ → Lent
+rowTo = lent 16 partIn
+
+abbrev pub recordTo : ℕ → List ℕ → List ℕ → Lent
+recordTo D = lent 20 (recordIn D)
+
+abbrev pub stampTo : List ℕ → List ℕ → List ℕ → Lent
+stampTo s = recordTo (decode s .setup .desks)
+
+abbrev pub short : List Lent → Bool
+short [] = false
+short (lent n f t t′ ∷ ls) = short ls || ltb (length t) n
+
+unfoldable pub orNoRoom : ℕ → ℕ
+orNoRoom n = pick (eqb n 0 || ltb (number NoRoom) n) (number NoRoom) n
+
+abbrev pub cramped : Bool → Answer → Answer
+cramped q a = pick q (refusal (orNoRoom (a .number))) a
+
+abbrev pub Fills : List Lent → Value → Type 0
+Fills [] v = Unit {0}
+Fills (lent n f t t′ ∷ ls) v = (t′ ≡ filled t (f v)) × Fills ls v
+
+pub record Gives (a : Answer) (ls : List Lent) (n : ℕ) : Type 0 where
+  pub number : n ≡ cramped (short ls) a .number
+  pub buffers : Fills ls (cramped (short ls) a .value)
+
+pub record Makes (c : Call) (s s′ : List ℕ) (ls : List Lent) (n : ℕ) : Type 0 where
+  pub answer : Gives (answerTo s c) ls n
+  pub book : s′ ≡ pick (short ls) s (bookAfter s c)

@@ -4,13 +4,10 @@ ghost use mathlib.Core.Path.{_≡_};
 ghost use mathlib.Core.List.{[], _∷_};
 ghost use Prim.Native.Nat.{_≤_};
 ghost use lib.ListN.{length};
-ghost use Rattle.tools.specs.Tests.{pick};
-ghost use Rattle.rules.specs.Model.{refusal};
+ghost use Rattle.rules.specs.Model.{slot, refusal, accepted};
 ghost use Rattle.rules.specs.Labels.{newer};
 ghost use Rattle.rules.specs.Replies.{stampedSays, postedSays, keptSays, toldSays, comparedSays};
-ghost use Rattle.book.specs.Stamps.{filled};
-ghost use Rattle.book.specs.Answers.{recordIn};
-ghost use Rattle.door.specs.Door.{setupBy, tooShort, cramped, given, relationByte, byteIn, whichByte, whichIn};
+ghost use Rattle.door.specs.Door.{setupBy, relationByte, whichByte, byteTo, whichTo, recordTo, cramped, Gives};
 use rules::Compared;
 use rules::Kept;
 use rules::Posted;
@@ -32,9 +29,7 @@ pub fn number_by(short: bool, number: u8) -> u8
 
 // The one byte of an accepted call's value.
 fn give_byte(target: &mut [u8], value: u8) -> u8
-    ensures { λ r. ⌜ r ≡ cramped (tooShort 1 (now (target .entry))) (refusal 0) .number ⌝ }
-    ensures { λ _. ⌜ now (target .exit) ≡ pick (tooShort 1 (now (target .entry))) (now (target .entry))
-        (filled (now (target .entry)) (value ∷ [])) ⌝ }
+    ensures { λ r. ⌜ Gives (accepted (slot value)) (byteTo (now (target .entry)) (now (target .exit)) ∷ []) r ⌝ }
 {
     if target.len() < 1 {
         return rules::NO_ROOM;
@@ -45,9 +40,7 @@ fn give_byte(target: &mut [u8], value: u8) -> u8
 }
 
 pub fn give_told(target: &mut [u8], told: Told) -> u8
-    ensures { λ r. ⌜ r ≡ cramped (tooShort 1 (now (target .entry))) (toldSays told) .number ⌝ }
-    ensures { λ _. ⌜ now (target .exit)
-        ≡ given byteIn (now (target .entry)) (tooShort 1 (now (target .entry))) (toldSays told) ⌝ }
+    ensures { λ r. ⌜ Gives (toldSays told) (byteTo (now (target .entry)) (now (target .exit)) ∷ []) r ⌝ }
 {
     match told {
         Told::Yes => give_byte(target, 1),
@@ -69,9 +62,7 @@ fn relation_byte(relation: Relation) -> u8
 }
 
 pub fn give_relation(target: &mut [u8], compared: Compared) -> u8
-    ensures { λ r. ⌜ r ≡ cramped (tooShort 1 (now (target .entry))) (comparedSays compared) .number ⌝ }
-    ensures { λ _. ⌜ now (target .exit)
-        ≡ given byteIn (now (target .entry)) (tooShort 1 (now (target .entry))) (comparedSays compared) ⌝ }
+    ensures { λ r. ⌜ Gives (comparedSays compared) (byteTo (now (target .entry)) (now (target .exit)) ∷ []) r ⌝ }
 {
     match compared {
         Compared::Is(relation) => give_byte(target, relation_byte(relation)),
@@ -93,9 +84,7 @@ fn newer_byte(relation: Relation) -> u8
 }
 
 pub fn give_newest(target: &mut [u8], compared: Compared) -> u8
-    ensures { λ r. ⌜ r ≡ cramped (tooShort 1 (now (target .entry))) (comparedSays compared) .number ⌝ }
-    ensures { λ _. ⌜ now (target .exit)
-        ≡ given whichIn (now (target .entry)) (tooShort 1 (now (target .entry))) (comparedSays compared) ⌝ }
+    ensures { λ r. ⌜ Gives (comparedSays compared) (whichTo (now (target .entry)) (now (target .exit)) ∷ []) r ⌝ }
 {
     match compared {
         Compared::Is(relation) => give_byte(target, newer_byte(relation)),
@@ -104,9 +93,7 @@ pub fn give_newest(target: &mut [u8], compared: Compared) -> u8
 }
 
 pub fn give_slot(target: &mut [u8], kept: Kept) -> u8
-    ensures { λ r. ⌜ r ≡ cramped (tooShort 1 (now (target .entry))) (keptSays kept) .number ⌝ }
-    ensures { λ _. ⌜ now (target .exit)
-        ≡ given byteIn (now (target .entry)) (tooShort 1 (now (target .entry))) (keptSays kept) ⌝ }
+    ensures { λ r. ⌜ Gives (keptSays kept) (byteTo (now (target .entry)) (now (target .exit)) ∷ []) r ⌝ }
 {
     match kept {
         Kept::Slot(s) => give_byte(target, s),
@@ -117,8 +104,7 @@ pub fn give_slot(target: &mut [u8], kept: Kept) -> u8
 // The stamp of an accepted event as a record.
 pub fn give_stamp(target: &mut [u8], desks: u8, stamped: Stamped) -> u8
     requires { ⌜ 20 ≤ length (now target) ⌝ }
-    ensures { λ r. ⌜ r ≡ stampedSays stamped .number ⌝ }
-    ensures { λ _. ⌜ now (target .exit) ≡ filled (now (target .entry)) (recordIn desks (stampedSays stamped .value)) ⌝ }
+    ensures { λ r. ⌜ Gives (stampedSays stamped) (recordTo desks (now (target .entry)) (now (target .exit)) ∷ []) r ⌝ }
 {
     if stamped.number != rules::DONE {
         return stamped.number;
@@ -132,10 +118,8 @@ pub fn give_stamp(target: &mut [u8], desks: u8, stamped: Stamped) -> u8
 // The stamp of an accepted send as a record, and its place.
 pub fn give_sent(stamp: &mut [u8], place: &mut [u8], desks: u8, sent: Sent) -> u8
     requires { ⌜ (20 ≤ length (now stamp)) × (1 ≤ length (now place)) ⌝ }
-    ensures { λ r. ⌜ r ≡ postedSays (sent .place) (sent .stamp) .number ⌝ }
-    ensures { λ _. ⌜ now (stamp .exit)
-        ≡ filled (now (stamp .entry)) (recordIn desks (postedSays (sent .place) (sent .stamp) .value)) ⌝ }
-    ensures { λ _. ⌜ now (place .exit) ≡ filled (now (place .entry)) (byteIn (postedSays (sent .place) (sent .stamp) .value)) ⌝ }
+    ensures { λ r. ⌜ Gives (postedSays (sent .place) (sent .stamp))
+        (recordTo desks (now (stamp .entry)) (now (stamp .exit)) ∷ byteTo (now (place .entry)) (now (place .exit)) ∷ []) r ⌝ }
 {
     let posted = sent.place;
     let own = sent.stamp;

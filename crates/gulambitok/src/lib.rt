@@ -1,12 +1,13 @@
 // The C interface: every call of document 01 over byte slices and numbers. Each answers the paper's number and writes its value
 // into a buffer that the caller lends; a buffer too short for it is NoRoom, and then nothing changes.
 ghost use mathlib.Core.Path.{_≡_};
+ghost use mathlib.Core.List.{[], _∷_};
 ghost use lib.ListN.{length};
 ghost use Rattle.rules.specs.Model;
 ghost use Rattle.rules.specs.Calls;
 ghost use Rattle.rules.specs.Calls.{on};
-ghost use Rattle.book.specs.Answers.{answerTo, bookAfter, partIn, targetAfter, beforeOf, compareOf};
-ghost use Rattle.door.specs.Door.{setupBy, tooShort, eitherShort, cramped, bookBy, given, byteIn, stampIn, whichIn};
+ghost use Rattle.book.specs.Answers.{answerTo, targetAfter, beforeOf, compareOf};
+ghost use Rattle.door.specs.Door.{setupBy, byteTo, whichTo, rowTo, stampTo, Gives, Makes};
 
 // Start writes a fresh book: rows zero, no seat started, all places free.
 #[no_mangle]
@@ -20,10 +21,7 @@ pub extern "C" fn gulambitok_start(
     back: usize,
     ahead: usize,
 ) -> u8
-    ensures { λ r. ⌜ r
-        ≡ answerTo (now (book .entry)) (Calls.start (setupBy desks phases clocks seats shelf back ahead)) .number ⌝ }
-    ensures { λ _. ⌜ now (book .exit)
-        ≡ bookAfter (now (book .entry)) (Calls.start (setupBy desks phases clocks seats shelf back ahead)) ⌝ }
+    ensures { λ r. ⌜ Makes (Calls.start (setupBy desks phases clocks seats shelf back ahead)) (now (book .entry)) (now (book .exit)) [] r ⌝ }
 {
     portal::start(
         book,
@@ -34,19 +32,14 @@ pub extern "C" fn gulambitok_start(
 // Local: the desk's own clock grows by 1.
 #[no_mangle]
 pub extern "C" fn gulambitok_local(book: &mut [u8], desk: usize, stamp: &mut [u8]) -> u8
-    ensures { λ r. ⌜ r ≡ cramped (tooShort 20 (now (stamp .entry)))
-        (answerTo (now (book .entry)) (on (Model.local desk))) .number ⌝ }
-    ensures { λ _. ⌜ now (book .exit) ≡ bookBy (tooShort 20 (now (stamp .entry)))
-        (now (book .entry)) (Model.local desk) ⌝ }
-    ensures { λ _. ⌜ now (stamp .exit) ≡ given (stampIn (now (book .entry))) (now (stamp .entry))
-        (tooShort 20 (now (stamp .entry))) (answerTo (now (book .entry)) (on (Model.local desk))) ⌝ }
+    ensures { λ r. ⌜ Makes (on (Model.local desk)) (now (book .entry)) (now (book .exit))
+        (stampTo (now (book .entry)) (now (stamp .entry)) (now (stamp .exit)) ∷ []) r ⌝ }
 {
     if stamp.len() < parts::RECORD_BYTES {
         return door::number_by(true, refusals::local_number(&book[..], desk));
     }
     let desks = portal::desks_in(&book[..]);
-    let stamped = portal::local(book, desk);
-    door::give_stamp(stamp, desks, stamped)
+    door::give_stamp(stamp, desks, portal::local(book, desk))
 }
 
 // Receive at a desk from a place; any waiting mail may be taken, in any order.
@@ -57,37 +50,27 @@ pub extern "C" fn gulambitok_receive(
     place: usize,
     stamp: &mut [u8],
 ) -> u8
-    ensures { λ r. ⌜ r ≡ cramped (tooShort 20 (now (stamp .entry)))
-        (answerTo (now (book .entry)) (on (Model.receive desk place))) .number ⌝ }
-    ensures { λ _. ⌜ now (book .exit) ≡ bookBy (tooShort 20 (now (stamp .entry)))
-        (now (book .entry)) (Model.receive desk place) ⌝ }
-    ensures { λ _. ⌜ now (stamp .exit) ≡ given (stampIn (now (book .entry))) (now (stamp .entry))
-        (tooShort 20 (now (stamp .entry))) (answerTo (now (book .entry)) (on (Model.receive desk place))) ⌝ }
+    ensures { λ r. ⌜ Makes (on (Model.receive desk place)) (now (book .entry)) (now (book .exit))
+        (stampTo (now (book .entry)) (now (stamp .entry)) (now (stamp .exit)) ∷ []) r ⌝ }
 {
     if stamp.len() < parts::RECORD_BYTES {
         return door::number_by(true, refusals::receive_number(&book[..], desk, place));
     }
     let desks = portal::desks_in(&book[..]);
-    let stamped = portal::receive(book, desk, place);
-    door::give_stamp(stamp, desks, stamped)
+    door::give_stamp(stamp, desks, portal::receive(book, desk, place))
 }
 
 // Reset: the desk's own phase grows by 1 modulo P and its own clock becomes 0.
 #[no_mangle]
 pub extern "C" fn gulambitok_reset(book: &mut [u8], desk: usize, stamp: &mut [u8]) -> u8
-    ensures { λ r. ⌜ r ≡ cramped (tooShort 20 (now (stamp .entry)))
-        (answerTo (now (book .entry)) (on (Model.reset desk))) .number ⌝ }
-    ensures { λ _. ⌜ now (book .exit) ≡ bookBy (tooShort 20 (now (stamp .entry)))
-        (now (book .entry)) (Model.reset desk) ⌝ }
-    ensures { λ _. ⌜ now (stamp .exit) ≡ given (stampIn (now (book .entry))) (now (stamp .entry))
-        (tooShort 20 (now (stamp .entry))) (answerTo (now (book .entry)) (on (Model.reset desk))) ⌝ }
+    ensures { λ r. ⌜ Makes (on (Model.reset desk)) (now (book .entry)) (now (book .exit))
+        (stampTo (now (book .entry)) (now (stamp .entry)) (now (stamp .exit)) ∷ []) r ⌝ }
 {
     if stamp.len() < parts::RECORD_BYTES {
         return door::number_by(true, refusals::reset_number(&book[..], desk));
     }
     let desks = portal::desks_in(&book[..]);
-    let stamped = portal::reset(book, desk);
-    door::give_stamp(stamp, desks, stamped)
+    door::give_stamp(stamp, desks, portal::reset(book, desk))
 }
 
 // Send from a desk to another: as local, then the row goes into the lowest free mail place.
@@ -99,44 +82,32 @@ pub extern "C" fn gulambitok_send(
     stamp: &mut [u8],
     place: &mut [u8],
 ) -> u8
-    ensures { λ r. ⌜ r ≡ cramped (eitherShort (now (stamp .entry)) (now (place .entry)))
-        (answerTo (now (book .entry)) (on (Model.send desk to))) .number ⌝ }
-    ensures { λ _. ⌜ now (book .exit) ≡ bookBy (eitherShort (now (stamp .entry)) (now (place .entry)))
-        (now (book .entry)) (Model.send desk to) ⌝ }
-    ensures { λ _. ⌜ now (stamp .exit) ≡ given (stampIn (now (book .entry))) (now (stamp .entry))
-        (eitherShort (now (stamp .entry)) (now (place .entry))) (answerTo (now (book .entry)) (on (Model.send desk to))) ⌝ }
-    ensures { λ _. ⌜ now (place .exit) ≡ given byteIn (now (place .entry))
-        (eitherShort (now (stamp .entry)) (now (place .entry))) (answerTo (now (book .entry)) (on (Model.send desk to))) ⌝ }
+    ensures { λ r. ⌜ Makes (on (Model.send desk to)) (now (book .entry)) (now (book .exit))
+        (stampTo (now (book .entry)) (now (stamp .entry)) (now (stamp .exit)) ∷ byteTo (now (place .entry)) (now (place .exit)) ∷ []) r ⌝ }
 {
-    if (stamp.len() < parts::RECORD_BYTES) | (place.len() < 1) {
+    if (place.len() < 1) | (stamp.len() < 20) {
         return door::number_by(true, refusals::send_number(&book[..], desk, to));
     }
     let desks = portal::desks_in(&book[..]);
-    let sent = portal::send(book, desk, to);
-    door::give_sent(stamp, place, desks, sent)
+    door::give_sent(stamp, place, desks, portal::send(book, desk, to))
 }
 
 // Keep copies the desk's present row to the lowest free slot.
 #[no_mangle]
 pub extern "C" fn gulambitok_keep(book: &mut [u8], desk: usize, slot: &mut [u8]) -> u8
-    ensures { λ r. ⌜ r ≡ cramped (tooShort 1 (now (slot .entry)))
-        (answerTo (now (book .entry)) (on (Model.keep desk))) .number ⌝ }
-    ensures { λ _. ⌜ now (book .exit) ≡ bookBy (tooShort 1 (now (slot .entry))) (now (book .entry)) (Model.keep desk) ⌝ }
-    ensures { λ _. ⌜ now (slot .exit) ≡ given byteIn (now (slot .entry)) (tooShort 1 (now (slot .entry)))
-        (answerTo (now (book .entry)) (on (Model.keep desk))) ⌝ }
+    ensures { λ r. ⌜ Makes (on (Model.keep desk)) (now (book .entry)) (now (book .exit))
+        (byteTo (now (slot .entry)) (now (slot .exit)) ∷ []) r ⌝ }
 {
     if slot.len() < 1 {
         return door::number_by(true, refusals::keep_number(&book[..], desk));
     }
-    let kept = portal::keep(book, desk);
-    door::give_slot(slot, kept)
+    door::give_slot(slot, portal::keep(book, desk))
 }
 
 // Drop frees a slot.
 #[no_mangle]
 pub extern "C" fn gulambitok_drop(book: &mut [u8], slot: usize) -> u8
-    ensures { λ r. ⌜ r ≡ answerTo (now (book .entry)) (on (Model.drop slot)) .number ⌝ }
-    ensures { λ _. ⌜ now (book .exit) ≡ bookAfter (now (book .entry)) (on (Model.drop slot)) ⌝ }
+    ensures { λ r. ⌜ Makes (on (Model.drop slot)) (now (book .entry)) (now (book .exit)) [] r ⌝ }
 {
     portal::drop(book, slot)
 }
@@ -144,8 +115,7 @@ pub extern "C" fn gulambitok_drop(book: &mut [u8], slot: usize) -> u8
 // Discard frees a mail place.
 #[no_mangle]
 pub extern "C" fn gulambitok_discard(book: &mut [u8], place: usize) -> u8
-    ensures { λ r. ⌜ r ≡ answerTo (now (book .entry)) (on (Model.discard place)) .number ⌝ }
-    ensures { λ _. ⌜ now (book .exit) ≡ bookAfter (now (book .entry)) (on (Model.discard place)) ⌝ }
+    ensures { λ r. ⌜ Makes (on (Model.discard place)) (now (book .entry)) (now (book .exit)) [] r ⌝ }
 {
     portal::discard(book, place)
 }
@@ -158,10 +128,8 @@ pub extern "C" fn gulambitok_before(
     second: usize,
     answer: &mut [u8],
 ) -> u8
-    ensures { λ r. ⌜ r ≡ cramped (tooShort 1 (now (answer .entry)))
-        (answerTo (now (book .entry)) (on (Model.before first second))) .number ⌝ }
-    ensures { λ _. ⌜ now (answer .exit) ≡ given byteIn (now (answer .entry)) (tooShort 1 (now (answer .entry)))
-        (answerTo (now (book .entry)) (on (Model.before first second))) ⌝ }
+    ensures { λ r. ⌜ Gives (answerTo (now (book .entry)) (on (Model.before first second)))
+        (byteTo (now (answer .entry)) (now (answer .exit)) ∷ []) r ⌝ }
 {
     door::give_told(answer, portal::before(book, first, second))
 }
@@ -174,10 +142,8 @@ pub extern "C" fn gulambitok_compare(
     second: usize,
     answer: &mut [u8],
 ) -> u8
-    ensures { λ r. ⌜ r ≡ cramped (tooShort 1 (now (answer .entry)))
-        (answerTo (now (book .entry)) (on (Model.compare first second))) .number ⌝ }
-    ensures { λ _. ⌜ now (answer .exit) ≡ given byteIn (now (answer .entry)) (tooShort 1 (now (answer .entry)))
-        (answerTo (now (book .entry)) (on (Model.compare first second))) ⌝ }
+    ensures { λ r. ⌜ Gives (answerTo (now (book .entry)) (on (Model.compare first second)))
+        (byteTo (now (answer .entry)) (now (answer .exit)) ∷ []) r ⌝ }
 {
     door::give_relation(answer, portal::compare(book, first, second))
 }
@@ -185,10 +151,8 @@ pub extern "C" fn gulambitok_compare(
 // Show copies the sixteen row bytes of a slot.
 #[no_mangle]
 pub extern "C" fn gulambitok_show(book: &[u8], slot: usize, row: &mut [u8]) -> u8
-    ensures { λ r. ⌜ r ≡ cramped (tooShort 16 (now (row .entry)))
-        (answerTo (now (book .entry)) (on (Model.show slot))) .number ⌝ }
-    ensures { λ _. ⌜ now (row .exit) ≡ given partIn (now (row .entry)) (tooShort 16 (now (row .entry)))
-        (answerTo (now (book .entry)) (on (Model.show slot))) ⌝ }
+    ensures { λ r. ⌜ Gives (answerTo (now (book .entry)) (on (Model.show slot)))
+        (rowTo (now (row .entry)) (now (row .exit)) ∷ []) r ⌝ }
 {
     let n = refusals::show_number(book, slot);
     if row.len() < parts::ROW_BYTES {
@@ -224,10 +188,8 @@ pub extern "C" fn gulambitok_label_before(
     second: &[u8],
     answer: &mut [u8],
 ) -> u8
-    ensures { λ r. ⌜ r ≡ cramped (tooShort 1 (now (answer .entry)))
-        (beforeOf (setupBy desks phases clocks seats shelf back ahead) (now (first .entry)) (now (second .entry))) .number ⌝ }
-    ensures { λ _. ⌜ now (answer .exit) ≡ given byteIn (now (answer .entry)) (tooShort 1 (now (answer .entry)))
-        (beforeOf (setupBy desks phases clocks seats shelf back ahead) (now (first .entry)) (now (second .entry))) ⌝ }
+    ensures { λ r. ⌜ Gives (beforeOf (setupBy desks phases clocks seats shelf back ahead) (now (first .entry)) (now (second .entry)))
+        (byteTo (now (answer .entry)) (now (answer .exit)) ∷ []) r ⌝ }
 {
     let s = door::setup_by(desks, phases, clocks, seats, shelf, back, ahead);
     door::give_told(answer, labels::before(s, first, second))
@@ -247,10 +209,8 @@ pub extern "C" fn gulambitok_label_compare(
     second: &[u8],
     answer: &mut [u8],
 ) -> u8
-    ensures { λ r. ⌜ r ≡ cramped (tooShort 1 (now (answer .entry)))
-        (compareOf (setupBy desks phases clocks seats shelf back ahead) (now (first .entry)) (now (second .entry))) .number ⌝ }
-    ensures { λ _. ⌜ now (answer .exit) ≡ given byteIn (now (answer .entry)) (tooShort 1 (now (answer .entry)))
-        (compareOf (setupBy desks phases clocks seats shelf back ahead) (now (first .entry)) (now (second .entry))) ⌝ }
+    ensures { λ r. ⌜ Gives (compareOf (setupBy desks phases clocks seats shelf back ahead) (now (first .entry)) (now (second .entry)))
+        (byteTo (now (answer .entry)) (now (answer .exit)) ∷ []) r ⌝ }
 {
     let s = door::setup_by(desks, phases, clocks, seats, shelf, back, ahead);
     door::give_relation(answer, labels::compare(s, first, second))
@@ -270,10 +230,8 @@ pub extern "C" fn gulambitok_label_newest(
     second: &[u8],
     answer: &mut [u8],
 ) -> u8
-    ensures { λ r. ⌜ r ≡ cramped (tooShort 1 (now (answer .entry)))
-        (compareOf (setupBy desks phases clocks seats shelf back ahead) (now (first .entry)) (now (second .entry))) .number ⌝ }
-    ensures { λ _. ⌜ now (answer .exit) ≡ given whichIn (now (answer .entry)) (tooShort 1 (now (answer .entry)))
-        (compareOf (setupBy desks phases clocks seats shelf back ahead) (now (first .entry)) (now (second .entry))) ⌝ }
+    ensures { λ r. ⌜ Gives (compareOf (setupBy desks phases clocks seats shelf back ahead) (now (first .entry)) (now (second .entry)))
+        (whichTo (now (answer .entry)) (now (answer .exit)) ∷ []) r ⌝ }
 {
     let s = door::setup_by(desks, phases, clocks, seats, shelf, back, ahead);
     door::give_newest(answer, labels::compare(s, first, second))

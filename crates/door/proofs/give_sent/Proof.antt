@@ -11,11 +11,13 @@ returns : tie.Need-returns
 returns c =
     let l = c .before .before .before .before .before .before in
     let x = l .before .before .before .before .before .posted .given in
-    sent-given _ _ _ _ _ (x .0 .0) (x .1) (l .before .before .before .before .before .before .before .before .before .before .pre .1) _ _ _
+    sent-given _ _ _ _ _ (l .before .before .before .before .before .before .before .before .before .before .pre) (x .0 .0) (x .1) _ _ _
     (l .lend .ensures ∙ ap (filled _) (l .before .before .before .record-of .ensures)) (c .before .before .give-byte .ensures)
 
 returns-2 : tie.Need-returns-2
-returns-2 c = let x = c .before .posted2 .given in sent-refused _ _ _ _ _ (x .0 .0) (x .1)
+returns-2 c =
+    let x = c .before .posted2 .given in
+    sent-refused _ _ _ _ _ (c .before .before .before .before .before .before .pre) (x .0 .0) (x .1)
 
 pub give-sent-spec : {M : Type 1} → statement M
 give-sent-spec =

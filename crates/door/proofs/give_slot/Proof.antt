@@ -3,18 +3,18 @@
 use mathlib.Core.Path.{refl, ap}
 use Rattle.rules.specs.Replies.{keptSays}
 use Rattle.door.specs.Door.{byteIn}
-use Rattle.door.proofs.Given.{byte-refused, byte-accepted}
+use Rattle.door.proofs.Given.{as-it-was, refused, byte-as}
 use borrow.Author.Needs.{needs}
 use Rattle.door.proofs.give_slot.Statement.{statement}
 use Rattle.door.proofs.give_slot.Tie as tie
 
 returns : tie.Need-returns
 returns c =
-    byte-accepted byteIn refl _ _ _ (ap keptSays (c .before .before .before .before .before .kept .given .1))
-    _ _ refl refl _ _ (c .before .before .give-byte .ensures)
+    byte-as byteIn refl _ _ _ _ _ (ap keptSays (c .before .before .before .before .before .kept .given .1)) _ refl
+    (c .before .before .give-byte .ensures)
 
 returns-2 : tie.Need-returns-2
-returns-2 c = byte-refused byteIn refl _ _ _ (ap keptSays (c .before .before .kept2 .given .1)) _ (c .number-by .ensures)
+returns-2 c = refused _ _ _ _ (ap keptSays (c .before .before .kept2 .given .1)) (c .number-by .ensures) (as-it-was _, tt)
 
 pub give-slot-spec : {M : Type 1} → statement M
 give-slot-spec =

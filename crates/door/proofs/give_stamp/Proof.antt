@@ -8,12 +8,13 @@ use Rattle.door.proofs.give_stamp.Statement.{statement}
 use Rattle.door.proofs.give_stamp.Tie as tie
 
 returns : tie.Need-returns
-returns c = stamp-refused _ _ _ (c .if1 .taken)
+returns c = stamp-refused _ _ _ (c .before .before .before .pre) (c .if1 .taken)
 
 returns-2 : tie.Need-returns-2
 returns-2 c =
     let l = c .before .before in
-    stamp-given _ _ _ (l .before .before .before .before .before .if1 .left) _
+    let g = l .before .before .before .before .before in
+    stamp-given _ _ _ (g .before .before .before .pre) (g .if1 .left) _
     (l .lend .ensures ∙ ap (filled _) (l .before .before .before .record-of .ensures))
 
 pub give-stamp-spec : {M : Type 1} → statement M

@@ -1,13 +1,9 @@
 -- `gulambitok::gulambitok_discard` meets its contract.
 -- Assumes nothing.
-use mathlib.Core.Path.{ap}
-use Rattle.rules.specs.Model.{Answer}
+use Rattle.gulambitok.proofs.Called.{called}
 use borrow.Author.Needs.{needs}
 use Rattle.gulambitok.proofs.gulambitok_discard.Statement.{statement}
 use Rattle.gulambitok.proofs.gulambitok_discard.Tie as tie
 
-returns : tie.Need-returns
-returns c = let w = c .before .before .discard .ensures in (ap (λ (a : Answer). a .number) (w .0), w .1)
-
 pub gulambitok-discard-spec : {M : Type 1} → statement M
-gulambitok-discard-spec = tie.close (tie.spec (λ c κs. search needs) (λ c. search needs) returns)
+gulambitok-discard-spec = tie.close (tie.spec (λ c κs. search needs) (λ c. search needs) (λ c. search called))
