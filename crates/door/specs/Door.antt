@@ -2,10 +2,11 @@
 -- Assumes nothing.
 --   setupBy D P L M A m n   the setup of the seven numbers
 --   relationByte r   the byte of a relation
---   byteIn v         the one byte of a value that is a place, a slot, a yes or no, or a relation; none with any other value
+--   one n            the byte n
+--   byteIn v         the one byte of the place, slot, yes or no, or relation in a value
 --   whichByte w      the byte of one of two records, or of neither
---   whichIn v        the byte of the newest of two records that a value relates; none with any other value
---   lent n f t t′    a buffer that the caller lends for a value: n bytes it must have, f are the value's, t is the whole buffer
+--   whichIn v        the byte of the newest of two records that a value relates; none where it relates none
+--   Lent, lent n f t t′   a buffer that the caller lends for a value: n bytes it must have, f are the value's, t is the whole buffer
 --                    before the call and t′ afterwards
 --   byteTo t t′, whichTo t t′, rowTo t t′   the buffer is lent for a byte, for the newest of two records, for sixteen row bytes
 --   recordTo D t t′  the buffer is lent for a stamp record with the number D of desks
@@ -20,7 +21,7 @@
 use Prim.Native.Nat.{ℕ}
 use mathlib.Core.Path.{_≡_}
 use mathlib.Core.Bool.{Bool, false, _||_}
-use mathlib.Core.List.{List, [], _∷_}
+use mathlib.Core.List.{List, [], _∷_, _++_}
 use lib.Dec.{ltb, eqb}
 use lib.ListN.{length}
 use Rattle.tools.specs.Tests.{pick}
@@ -29,7 +30,7 @@ use Rattle.rules.specs.declared.Setup.{Setup}
 use Rattle.rules.specs.declared.Relation.{Relation}
 use Rattle.rules.specs.declared.Relation.the-variants.{Before, After, Same, Concurrent, Crossed}
 use Rattle.rules.specs.Numbers.{NoRoom, number}
-use Rattle.rules.specs.Model.{Value, nothing, stamp, sent, slot, says, relates, shows, Answer, refusal}
+use Rattle.rules.specs.Model.{Value, Answer, refusal}
 use Rattle.rules.specs.Calls.{Call}
 use Rattle.rules.specs.Labels.{Which, First, Second, Neither, newer}
 use Rattle.book.specs.Codec.{decode}
@@ -61,13 +62,7 @@ whichByte Second = 2
 whichByte Neither = 0
 
 abbrev pub whichIn : Value → List ℕ
-whichIn nothing = []
-whichIn (stamp j r) = []
-whichIn (sent p j r) = []
-whichIn (slot s) = []
-whichIn (says t) = []
-whichIn (relates r) = whichByte (newer r) ∷ []
-whichIn (shows r) = []
+whichIn v = listed (λ r. one (whichByte (newer r))) (v .relation)
 
 pub data Lent : Type 0 where
   lent : ℕ → (Value → List ℕ) → List ℕ → List ℕ → Lent
@@ -97,7 +92,7 @@ orNoRoom n = pick (eqb n 0 || ltb (number NoRoom) n) (number NoRoom) n
 abbrev pub cramped : Bool → Answer → Answer
 cramped q a = pick q (refusal (orNoRoom (a .number))) a
 
-abbrev pub Fills : List Lent → Value → Type 0
+unfoldable pub Fills : List Lent → Value → Type 0
 Fills [] v = Unit {0}
 Fills (lent n f t t′ ∷ ls) v = (t′ ≡ filled t (f v)) × Fills ls v
 

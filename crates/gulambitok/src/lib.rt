@@ -21,7 +21,8 @@ pub extern "C" fn gulambitok_start(
     back: usize,
     ahead: usize,
 ) -> u8
-    ensures { λ r. ⌜ Makes (Calls.start (setupBy desks phases clocks seats shelf back ahead)) (now (book .entry)) (now (book .exit)) [] r ⌝ }
+    ensures { λ r. ⌜ Makes (Calls.start (setupBy desks phases clocks seats shelf back ahead))
+        (now (book .entry)) (now (book .exit)) [] r ⌝ }
 {
     portal::start(
         book,
@@ -83,9 +84,10 @@ pub extern "C" fn gulambitok_send(
     place: &mut [u8],
 ) -> u8
     ensures { λ r. ⌜ Makes (on (Model.send desk to)) (now (book .entry)) (now (book .exit))
-        (stampTo (now (book .entry)) (now (stamp .entry)) (now (stamp .exit)) ∷ byteTo (now (place .entry)) (now (place .exit)) ∷ []) r ⌝ }
+        (stampTo (now (book .entry)) (now (stamp .entry)) (now (stamp .exit))
+        ∷ byteTo (now (place .entry)) (now (place .exit)) ∷ []) r ⌝ }
 {
-    if (place.len() < 1) | (stamp.len() < 20) {
+    if (place.len() < 1) | (stamp.len() < parts::RECORD_BYTES) {
         return door::number_by(true, refusals::send_number(&book[..], desk, to));
     }
     let desks = portal::desks_in(&book[..]);
@@ -188,7 +190,8 @@ pub extern "C" fn gulambitok_label_before(
     second: &[u8],
     answer: &mut [u8],
 ) -> u8
-    ensures { λ r. ⌜ Gives (beforeOf (setupBy desks phases clocks seats shelf back ahead) (now (first .entry)) (now (second .entry)))
+    ensures { λ r. ⌜ Gives
+        (beforeOf (setupBy desks phases clocks seats shelf back ahead) (now (first .entry)) (now (second .entry)))
         (byteTo (now (answer .entry)) (now (answer .exit)) ∷ []) r ⌝ }
 {
     let s = door::setup_by(desks, phases, clocks, seats, shelf, back, ahead);
@@ -209,7 +212,8 @@ pub extern "C" fn gulambitok_label_compare(
     second: &[u8],
     answer: &mut [u8],
 ) -> u8
-    ensures { λ r. ⌜ Gives (compareOf (setupBy desks phases clocks seats shelf back ahead) (now (first .entry)) (now (second .entry)))
+    ensures { λ r. ⌜ Gives
+        (compareOf (setupBy desks phases clocks seats shelf back ahead) (now (first .entry)) (now (second .entry)))
         (byteTo (now (answer .entry)) (now (answer .exit)) ∷ []) r ⌝ }
 {
     let s = door::setup_by(desks, phases, clocks, seats, shelf, back, ahead);
@@ -230,7 +234,8 @@ pub extern "C" fn gulambitok_label_newest(
     second: &[u8],
     answer: &mut [u8],
 ) -> u8
-    ensures { λ r. ⌜ Gives (compareOf (setupBy desks phases clocks seats shelf back ahead) (now (first .entry)) (now (second .entry)))
+    ensures { λ r. ⌜ Gives
+        (compareOf (setupBy desks phases clocks seats shelf back ahead) (now (first .entry)) (now (second .entry)))
         (whichTo (now (answer .entry)) (now (answer .exit)) ∷ []) r ⌝ }
 {
     let s = door::setup_by(desks, phases, clocks, seats, shelf, back, ahead);

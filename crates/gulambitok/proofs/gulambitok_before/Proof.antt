@@ -1,11 +1,10 @@
 -- `gulambitok::gulambitok_before` meets its contract.
 -- Assumes nothing.
+use Rattle.gulambitok.proofs.Called.{called}
 use borrow.Author.Needs.{needs}
 use Rattle.gulambitok.proofs.gulambitok_before.Statement.{statement}
 use Rattle.gulambitok.proofs.gulambitok_before.Tie as tie
 
-returns : tie.Need-returns
-returns c = rw (c .before .before .before .before2 .ensures) at (c .before .before .give-told .ensures)
-
 pub gulambitok-before-spec : {M : Type 1} → statement M
-gulambitok-before-spec = tie.close (tie.spec (λ c κs. search needs) (λ c κs. search needs) (λ c. search needs) returns)
+gulambitok-before-spec =
+    tie.close (tie.spec (λ c κs. search needs) (λ c κs. search needs) (λ c. search needs) (λ c. search called))

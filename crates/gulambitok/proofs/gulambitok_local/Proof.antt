@@ -9,5 +9,5 @@ pub gulambitok-local-spec : {M : Type 1} → statement M
 gulambitok-local-spec =
     tie.close
     (tie.spec
-    (λ c κs. search needs) (λ c κs. search needs) (λ c. search needs) (λ c. search called) (λ c κs. search needs) (λ c κs. search needs)
-    (λ c κs. search needs) (λ c. search needs) (λ c. search needs) (λ c. search called))
+    (λ c κs. search needs) (λ c κs. search needs) (λ c. search needs) (λ c. search called) (λ c κs. search needs)
+    (λ c κs. search needs) (λ c κs. search needs) (λ c. search needs) (λ c. search needs) (λ c. search called))

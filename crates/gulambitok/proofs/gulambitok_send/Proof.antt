@@ -9,5 +9,5 @@ pub gulambitok-send-spec : {M : Type 1} → statement M
 gulambitok-send-spec =
     tie.close
     (tie.spec
-    (λ c κs. search needs) (λ c κs. search needs) (λ c. search needs) (λ c. search called) (λ c κs. search needs) (λ c κs. search needs)
-    (λ c κs. search called) (λ c. search needs) (λ c. search needs) (λ c. search needs) (λ c. search called))
+    (λ c κs. search needs) (λ c κs. search needs) (λ c. search needs) (λ c. search called) (λ c κs. search needs)
+    (λ c κs. search needs) (λ c κs. search called) (λ c. search needs) (λ c. search needs) (λ c. search needs) (λ c. search called))
