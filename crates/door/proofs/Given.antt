@@ -97,7 +97,7 @@ byte-as f none t l r v a e u x g =
 abbrev recordOf : ℕ → Stamp → List ℕ
 recordOf D x = writeStamp D (record { owner = x .owner; row = rowOf (x .row) })
 
--- the stamp of a refused event, and of an accepted one, whose record w is
+-- the stamp of a refused event, and of an accepted one with the record w
 module _ (x : Stamped) (D : ℕ) (t : List ℕ) (fit : 20 ≤ length t) where
   pub stamp-refused : (x .number ≡ 0 → ⊥) → Gives (stampedSays x) (recordTo D t t ∷ []) (x .number)
   unfolding stampedSays

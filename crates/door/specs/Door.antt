@@ -6,15 +6,15 @@
 --   byteIn v         the one byte of the place, slot, yes or no, or relation in a value
 --   whichByte w      the byte of one of two records, or of neither
 --   whichIn v        the byte of the newest of two records that a value relates; none where it relates none
---   Lent, lent n f t t′   a buffer that the caller lends for a value: n bytes it must have, f are the value's, t is the whole buffer
---                    before the call and t′ afterwards
+--   Lent, lent n f t t′   a buffer that the caller lends for a value: it must have n bytes, f tells those of the value, and the
+--                    whole buffer is t before the call and t′ afterwards
 --   byteTo t t′, whichTo t t′, rowTo t t′   the buffer is lent for a byte, for the newest of two records, for sixteen row bytes
 --   recordTo D t t′  the buffer is lent for a stamp record with the number D of desks
 --   stampTo s t t′   the buffer is lent for a stamp record with the D of the book s
 --   short ls         one of the lent buffers ls is too short
 --   orNoRoom n       NoRoom or the number n, whichever is smaller; 0 is no reason
 --   cramped q a      the answer a to a call, with NoRoom as one more reason where q holds: a lent buffer is too short
---   Fills ls v       each of the lent buffers ls has the value's bytes in front, and the rest as it was
+--   Fills ls v       each of the lent buffers ls has its bytes of the value v in front afterwards, and the rest as it was
 --   Gives a ls n     what a caller gets who lends ls and is answered a: the number n, and every byte of ls
 --   Makes c s s′ ls n   what a caller gets who lends ls to the call c on the book s: the same, and every byte s′ of the book,
 --                    which is as it was where one of ls is too short
