@@ -1,6 +1,6 @@
 -- A fresh book, record by record, and what start answers and leaves.
 -- Assumes nothing.
-use Prim.Native.Nat.{ℕ, _+_, _*_, _<_, _≤_}
+use Prim.Native.Nat.{ℕ, _+_, _<_, _≤_}
 use mathlib.Core.Path.{_≡_, refl, sym, ap, _∙_, subst}
 use mathlib.Core.Bool.{Bool, true, false}
 use mathlib.Core.List.{List}
@@ -13,26 +13,24 @@ use lib.Seq.{getD-set-same, getD-set-other}
 use Rattle.tools.specs.Tests.{pick}
 use Rattle.tools.specs.Lists.{byte, tab, Filled}
 use Rattle.tools.proofs.Tests.{and-true-l, lt-or-le}
+use Rattle.tools.proofs.Lists.{tab-at}
 use Rattle.rules.specs.declared.Setup.{Setup}
 use Rattle.rules.specs.Setups.{inRange, related, permits}
 use Rattle.rules.specs.Model.{refusal, zeros, fresh}
 use Rattle.rules.specs.Calls.{start, call, freshBook}
 use Rattle.rules.specs.Replies.{rowByte, rowBytes}
 use Rattle.rules.proofs.Setups.{Ranged, ranged}
-use Rattle.book.specs.Layout.{rowSpot, tagASpot, tagBSpot}
+use Rattle.book.specs.Layout.{headSize, rowSpot, tagASpot, tagBSpot}
 use Rattle.book.specs.Layout.{bookSize, records, shelfFrom, Record, spot, headByte, mark0, mark1, recordByte}
 use Rattle.book.specs.Codec.{recordOf, write, encode}
 use Rattle.book.specs.Answers.{admits, answerTo, bookAfter}
 use Rattle.book.proofs.Bytes.{record-bytes, layout-is}
 use Rattle.book.proofs.Posted.{post-length, post-head, post-other, post-A, post-B, post-row}
-use Rattle.portal.specs.Fresh.{cleared, freed}
+use Rattle.portal.specs.Fresh.{cleared, freed, freshRecord, Written}
 
 pub zero-bytes : replicate 16 0 ≡ rowBytes zeros
 unfolding rowBytes rowByte tab
 zero-bytes = refl
-
-pub filled-from : (n c : ℕ) (f g : ℕ → ℕ) (l : List ℕ) → Filled n c f l → ((i : ℕ) → i < c → f i ≡ g i) → Filled n c g l
-filled-from n c f g l h e = record { size = h .size; at = λ i m. h .at i m ∙ e i m }
 
 -- every setup number fits a byte
 pub fits : (X : Setup) → permits X ≡ true → Ranged X
@@ -40,25 +38,23 @@ unfolding permits
 fits X h = ranged X (and-true-l (inRange X) (related X) h)
 
 -- a fresh record is its mark and zeros
-abbrev none : Record
-none = record { tagA = 0; tagB = 0; row = zeros }
-
-fresh-record : (k : ℕ) → recordOf fresh k ≡ none
+fresh-record : (k : ℕ) → recordOf fresh k ≡ freshRecord
 fresh-record k = go (ltb k 8) (ltb k shelfFrom)
   where
-    go : (t u : Bool) → pick t none (pick u none none) ≡ none
+    go : (t u : Bool) → pick t freshRecord (pick u freshRecord freshRecord) ≡ freshRecord
     go true u = refl
     go false true = refl
     go false false = refl
 
--- the first sixteen bytes are f's, and the first n records are fresh
-pub record Written (f : ℕ → ℕ) (n : ℕ) (b : List ℕ) : Type 0 where
-  pub size : length b ≡ bookSize
-  pub head : (i : ℕ) → i < 16 → f i ≡ byte b i
-  pub there : (k c : ℕ) → k < n → c < 20 → recordByte k none c ≡ byte b (spot k c)
-
-pub written-none : (b : List ℕ) → length b ≡ bookSize → Written (byte b) 0 b
-written-none b e = record { size = e; head = λ i l. refl; there = λ k c l m. absurd (omega arith) }
+-- the header alone is written
+pub written-head : (X : Setup) (b head : List ℕ) → head ≡ tab 0 headSize (headByte X) → Filled bookSize headSize (byte head) b
+    → Written X 0 b
+written-head X b head e h =
+    record {
+      size = h .size;
+      head = λ i l. sym (h .at i l ∙ ap (λ (x : List ℕ). byte x i) e ∙ tab-at headSize (headByte X) i l);
+      there = λ k c l m. absurd (omega arith);
+    }
 
 module _ (b : List ℕ) (size : length b ≡ bookSize) (n : ℕ) (l : n < records) where
   abbrev marked : List ℕ
@@ -78,9 +74,9 @@ module _ (b : List ℕ) (size : length b ≡ bookSize) (n : ℕ) (l : n < record
   past-mark i n0 n1 =
       sym (getD-set-other marked (spot n 1) i (mark1 n) 0 n1 ∙ getD-set-other (cleared b n) (spot n 0) i (mark0 n) 0 n0)
 
-  freed-here : (c : ℕ) → c < 20 → recordByte n none c ≡ byte (freed b n) (spot n c)
+  freed-here : (c : ℕ) → c < 20 → recordByte n freshRecord c ≡ byte (freed b n) (spot n c)
   freed-here =
-      record-bytes n none (λ c v. v ≡ byte (freed b n) (spot n c))
+      record-bytes n freshRecord (λ c v. v ≡ byte (freed b n) (spot n c))
       (sym (getD-set-same (cleared b n) (spot n 0) (mark0 n) 0 (omega (arith, cleared-length)))
       ∙ sym (getD-set-other marked (spot n 1) (spot n 0) (mark1 n) 0 (omega arith)))
       (sym (getD-set-same marked (spot n 1) (mark1 n) 0 (omega (arith, marked-length))))
@@ -88,8 +84,8 @@ module _ (b : List ℕ) (size : length b ≡ bookSize) (n : ℕ) (l : n < record
       (sym (post-B b size n 0 0 l zeros) ∙ past-mark (spot n tagBSpot) (omega arith) (omega arith))
       (λ c m. sym (post-row b size n 0 0 l zeros c m) ∙ past-mark (spot n (rowSpot + c)) (omega arith) (omega arith))
 
-pub written-more : (f : ℕ → ℕ) (n : ℕ) (b : List ℕ) → Written f n b → n < records → Written f (n + 1) (freed b n)
-written-more f n b h l =
+pub written-more : (X : Setup) (n : ℕ) (b : List ℕ) → Written X n b → n < records → Written X (n + 1) (freed b n)
+written-more X n b h l =
     record {
       size = freed-length b (h .size) n l;
       head =
@@ -102,16 +98,15 @@ written-more f n b h l =
           ∙ past-mark b (h .size) n l (spot k c) (omega arith) (omega arith))
           (λ (m : n ≤ k).
           let e : n ≡ k = omega arith in
-          subst (λ (i : ℕ). recordByte i none c ≡ byte (freed b n) (spot i c)) e (freed-here b (h .size) n l c lc)) (lt-or-le k n);
+          subst (λ (i : ℕ). recordByte i freshRecord c ≡ byte (freed b n) (spot i c)) e (freed-here b (h .size) n l c lc)) (lt-or-le k n);
     }
 
-pub written-all : (X : Setup) (old b : List ℕ) → Filled bookSize 16 (headByte X) old → Written (byte old) records b
-    → b ≡ encode (freshBook X)
-written-all X old b head h =
+pub written-all : (X : Setup) (b : List ℕ) → Written X records b → b ≡ encode (freshBook X)
+written-all X b h =
     sym (layout-is (write (freshBook X)) b
     (record {
       size = h .size;
-      head = λ i l. sym (head .at i l) ∙ h .head i l;
+      head = h .head;
       there = λ k c lk lc. ap (λ (r : Record). recordByte k r c) (fresh-record k) ∙ h .there k c lk lc;
     }))
 

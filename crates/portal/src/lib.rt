@@ -3,7 +3,7 @@ ghost use mathlib.Core.Path.{_≡_};
 ghost use mathlib.Core.Bool.{true};
 ghost use Prim.Native.Nat.{_<_, _≤_};
 ghost use lib.ListN.{length};
-ghost use Rattle.tools.specs.Lists.{byte, tab, Filled};
+ghost use Rattle.tools.specs.Lists.{byte, tab};
 ghost use Rattle.rules.specs.Setups.{permits};
 ghost use Rattle.rules.specs.Model;
 ghost use Rattle.rules.specs.Model.{refusal};
@@ -16,7 +16,7 @@ ghost use Rattle.book.specs.Layout.{bookSize, records, shelfFrom, seats, headSi
 ghost use Rattle.book.specs.Codec.{encode};
 ghost use Rattle.book.specs.Answers.{answerTo, bookAfter, partOf, targetAfter};
 ghost use Rattle.refusals.specs.First.{usedNumber};
-ghost use Rattle.portal.specs.Fresh.{cleared, freed, freeAfter};
+ghost use Rattle.portal.specs.Fresh.{cleared, freed, Written, Freshens, freeAfter};
 use rules::Compared;
 use rules::Kept;
 use rules::Posted;
@@ -109,7 +109,7 @@ fn head_of(s: Setup) -> [u8; 16]
 fn write_head(book: &mut [u8], s: Setup)
     requires { ⌜ length (now book) ≡ bookSize ⌝ }
     requires { ⌜ permits s ≡ true ⌝ }
-    ensures { λ _. ⌜ Filled bookSize headSize (headByte s) (now (book .exit)) ⌝ }
+    ensures { λ _. ⌜ Written s 0 (now (book .exit)) ⌝ }
 {
     let head = head_of(s);
     let mut i: usize = 0;
@@ -129,18 +129,28 @@ fn write_free(book: &mut [u8], k: usize)
     book[parts::spot(k, 1)] = parts::second_mark(k);
 }
 
-// Record by record, so that no byte is looked up by a division.
+fn write_records(book: &mut [u8], from: usize, to: usize)
+    requires { ⌜ length (now book) ≡ bookSize ⌝ }
+    requires { ⌜ (from ≤ to) × (to ≤ records) ⌝ }
+    ensures { λ _. ⌜ Freshens from to (now (book .entry)) (now (book .exit)) ⌝ }
+{
+    let mut k: usize = from;
+    while k < to {
+        write_free(book, k);
+        k += 1;
+    }
+}
+
+// One kind of record after the other, so that the mark is a constant and no record asks which it has.
 fn write_fresh(book: &mut [u8], s: Setup)
     requires { ⌜ length (now book) ≡ bookSize ⌝ }
     requires { ⌜ permits s ≡ true ⌝ }
     ensures { λ _. ⌜ now (book .exit) ≡ encode (freshBook s) ⌝ }
 {
     write_head(book, s);
-    let mut k: usize = 0;
-    while k < parts::RECORDS {
-        write_free(book, k);
-        k += 1;
-    }
+    write_records(book, 0, parts::MAIL);
+    write_records(book, parts::MAIL, parts::SHELF);
+    write_records(book, parts::SHELF, parts::RECORDS);
 }
 
 // Start writes a fresh book, whatever the bytes were: rows zero, no seat started, all places free.

@@ -1,15 +1,13 @@
 -- `portal::write_head` meets its contract.
 -- Assumes nothing.
 use Prim.Native.Nat.{_≤_, _-_}
-use mathlib.Core.Path.{_≡_, refl, ap, sym, _∙_}
-use mathlib.Core.List.{List}
-use Prim.Native.Nat.{ℕ}
+use mathlib.Core.Path.{_≡_, refl, sym, _∙_}
 use native.Mathlib.Omega.{arith}
-use Rattle.portal.proofs.Fresh.{filled-from}
+use Rattle.portal.proofs.Fresh.{written-head}
 use borrow.Author.Needs.{needs}
 use Rattle.tools.specs.Lists.{byte, Filled}
-use Rattle.tools.proofs.Lists.{filled-none, filled-more, tab-at}
-use Rattle.book.specs.Layout.{bookSize, headByte}
+use Rattle.tools.proofs.Lists.{filled-none, filled-more}
+use Rattle.book.specs.Layout.{bookSize}
 use Rattle.portal.proofs.write_head.Statement.{statement}
 use Rattle.portal.proofs.write_head.Tie as tie
 
@@ -40,8 +38,7 @@ returns : tie.Need-returns Inv-loop μ-loop
 returns c =
     let h = c .before in
     let e : h .loop .i ≡ 16 = omega arith in
-    filled-from bookSize 16 _ _ (h .loop .book) (rw e at (h .loop .inv .1))
-    (λ i l. ap (λ (x : List ℕ). byte x i) (h .before .head-of .ensures) ∙ tab-at 16 (headByte (h .before .before .before .args .s)) i l)
+    written-head (h .before .before .before .args .s) (h .loop .book) _ (h .before .head-of .ensures) (rw e at (h .loop .inv .1))
 
 pub write-head-spec : {M : Type 1} → statement M
 write-head-spec =
