@@ -1,7 +1,6 @@
 // What the calls that ask of a book tell where their slots are used: they leave it as it is.
 ghost use mathlib.Core.Path.{_≡_};
 ghost use mathlib.Core.Bool.{true, false};
-ghost use Prim.Native.Nat.{_+_, _-_};
 ghost use lib.ListN.{length};
 ghost use Rattle.rules.specs.Model;
 ghost use Rattle.rules.specs.Model.{byIn, noSlot};

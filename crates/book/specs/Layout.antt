@@ -9,7 +9,7 @@
 --   places           the mail places; there are as many shelf slots
 --   mailFrom         the record of mail place 0
 --   shelfFrom        the record of shelf slot 0
---   tagASpot, tagBSpot   which byte of a record its first tag is, and its second, the fourth byte of all
+--   tagASpot, tagBSpot   which byte of a record is its first tag, and which its second: a mail place's addressee, filler elsewhere
 --   rowSpot          the byte of a record where its row begins
 --   phaseSpot j, clockSpot j   which byte of a row is the phase of desk j, and which the clock
 --   bookMark0, bookMark1   the mark of a book

@@ -9,36 +9,35 @@ ghost use Rattle.book.specs.Layout;
 ghost use Rattle.book.specs.Stamps.{filled};
 use rules::Setup;
 
-// A book is a header and its records.
 pub const HEAD_BYTES: usize = 16;
 
 pub const RECORD_BYTES: usize = 20;
 
-pub const RECORDS: usize = 72;
+pub const ROW_BYTES: usize = 16;
 
-pub const BOOK_BYTES: usize = HEAD_BYTES + RECORDS * RECORD_BYTES;
-
-// The records of the seats come first; a row has a pair for each.
+// A row has a pair for each seat.
 pub const SEATS: usize = 8;
-
-// The record of mail place 0.
-pub const MAIL: usize = 8;
-
-// The record of shelf slot 0.
-pub const SHELF: usize = 40;
 
 // Mail places and shelf slots, each.
 pub const PLACES: usize = 32;
 
+// The record of mail place 0, behind those of the seats.
+pub const MAIL: usize = SEATS;
+
+// The record of shelf slot 0.
+pub const SHELF: usize = MAIL + PLACES;
+
+pub const RECORDS: usize = SHELF + PLACES;
+
+pub const BOOK_BYTES: usize = HEAD_BYTES + RECORDS * RECORD_BYTES;
+
 // A record is a mark of two bytes, two tags and a row.
 const TAG_A: usize = 2;
 
-// A seat's fourth byte, a mail place's addressee.
+// A mail place's addressee; filler in a seat and a slot.
 const TAG_B: usize = 3;
 
 pub const ROW: usize = 4;
-
-pub const ROW_BYTES: usize = 16;
 
 // The mark of a book, its first two bytes.
 pub const BOOK_MARK0: u8 = 0x42;
@@ -48,7 +47,7 @@ pub const BOOK_MARK1: u8 = 0x4B;
 // The first tag of a seat that has started.
 pub const STARTED: u8 = 1;
 
-// The first tag of a place or slot that is free.
+// The first tag of a place or slot that is free, and of a seat that has not started.
 pub const FREE: u8 = 0;
 
 // A second tag that says nothing.

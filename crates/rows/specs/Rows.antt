@@ -6,7 +6,7 @@
 --   laterRow s d m  for every desk the later of its pairs in the records d and m, d's unless m's is later
 --   withPair row j q    the sixteen bytes row with the pair q for desk j
 --   grownRow, turnedRow, mergedRow   the row of desk j after local and send; reset; receive from the mail place p
-use Prim.Native.Nat.{ℕ, _+_, _*_, _<_}
+use Prim.Native.Nat.{ℕ, _+_, _<_}
 use mathlib.Core.Path.{_≡_}
 use mathlib.Core.Bool.{Bool, true}
 use mathlib.Core.List.{List}

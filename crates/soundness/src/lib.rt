@@ -16,10 +16,10 @@ ghost use Rattle.soundness.specs.Checks.{countOf, Limits, ownOk, Ready, 
 const PHASES: usize = 0;
 
 // Then each desk's own phase.
-const OWN: usize = 8;
+const OWN: usize = parts::SEATS;
 
 // Then how many clock values each has.
-const CLOCKS: usize = 16;
+const CLOCKS: usize = 2 * parts::SEATS;
 
 // How many phases, or clock values, desk j has, of d desks with n each. Where there is no desk 0 alone is in range, so one.
 fn count_of(d: usize, n: u8, j: usize) -> u8

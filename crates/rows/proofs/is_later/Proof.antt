@@ -1,6 +1,6 @@
 -- `rows::is_later` meets its contract.
 -- Assumes nothing.
-use Prim.Native.Nat.{ℕ, _+_, _*_, _<_}
+use Prim.Native.Nat.{ℕ, _+_, _<_}
 use native.Mathlib.Omega.{arith}
 use Rattle.tools.specs.Lists.{byte}
 use Rattle.book.specs.Layout.{records, rowSpot, phaseSpot, spot}
