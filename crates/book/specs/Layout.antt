@@ -36,6 +36,7 @@ use Rattle.tools.specs.Tests.{pick}
 use Rattle.tools.specs.Lists.{byte, tab, mid}
 use Rattle.rules.specs.declared.Setup.{Setup}
 use Rattle.rules.specs.Model.{Row}
+pub use Rattle.rules.specs.Model.{places, recordSize}
 use Rattle.rules.specs.Replies.{rowByte}
 
 pub record Record : Type 0 where
@@ -50,17 +51,11 @@ pub record Fields : Type 0 where
 abbrev pub headSize : ℕ
 headSize = 16
 
-abbrev pub recordSize : ℕ
-recordSize = 20
-
 abbrev pub rowSize : ℕ
 rowSize = 16
 
 abbrev pub seats : ℕ
 seats = 8
-
-abbrev pub places : ℕ
-places = 32
 
 abbrev pub mailFrom : ℕ
 mailFrom = 8

@@ -14,6 +14,7 @@ use Rattle.rules.specs.Calls.{Book, Call, start, Turn, ringOf, call}
 use Rattle.history.specs.Runs.{run}
 use Rattle.cases.proofs.Cases.{cases}
 use Rattle.book.specs.Sound.{sound}
+use Rattle.book.specs.Layout.{bookSize}
 use Rattle.book.specs.Codec.{decode}
 use Rattle.book.specs.Answers.{admits, turnOn, bookAfter}
 use Rattle.book.proofs.Answers.{answer-is, after-decode, after-sound}
@@ -39,11 +40,11 @@ sound-run s h (c ∷ cs) =
     let a = sound-admits s h c in
     first-on s c cs a (sound-run (bookAfter s c) (after-sound s c a (inr h)) cs)
 
-start-run : (s : List ℕ) → length s ≡ 1456 → (X : Setup) → permits X ≡ true → (cs : List Call)
+start-run : (s : List ℕ) → length s ≡ bookSize → (X : Setup) → permits X ≡ true → (cs : List Call)
     → answersOn s (start X ∷ cs) ≡ answers (decode s) (start X ∷ cs)
 unfolding admits call
 start-run s l X p cs =
-    let a : admits s (start X) ≡ true = eq-eqb (length s) 1456 l in
+    let a : admits s (start X) ≡ true = eq-eqb (length s) bookSize l in
     let z : turnOn s (start X) .answer .number ≡ 0 = rw p in
     first-on s (start X) cs a (sound-run (bookAfter s (start X)) (after-sound s (start X) a (inl z)) cs)
 

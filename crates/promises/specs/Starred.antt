@@ -13,6 +13,7 @@ use Rattle.rules.specs.Model.{fresh, grown}
 use Rattle.rules.specs.Calls.{Call, start, Turn, ringOf}
 use Rattle.history.specs.Runs.{run}
 use Rattle.cases.specs.Cases.{Cases}
+use Rattle.book.specs.Layout.{bookSize}
 use Rattle.book.specs.Codec.{decode}
 use Rattle.book.specs.Stamps.{writeStamp}
 use Rattle.promises.specs.Runs.{answersOn}
@@ -27,5 +28,5 @@ pub record Starred : Type 0 where
   -- 4: the record of the stamp that local 0 answers on a fresh book
   pub fourth : writeStamp 3 (record { owner = 0; row = grown fresh 0 }) ≡ fourthRecord
   -- on any 1,456 bytes the calls of a case, a permitted start first, are answered as on the book of the rules
-  pub carried : (s : List ℕ) → length s ≡ 1456 → (X : Setup) → permits X ≡ true → (cs : List Call)
+  pub carried : (s : List ℕ) → length s ≡ bookSize → (X : Setup) → permits X ≡ true → (cs : List Call)
       → answersOn s (start X ∷ cs) ≡ map (λ (t : Turn). t .answer) (run ringOf (decode s) (start X ∷ cs))

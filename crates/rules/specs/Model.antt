@@ -1,5 +1,7 @@
 -- A book without its bytes, and one step function over any arithmetic of phases.
 -- Assumes nothing.
+--   places           the mail places; there are as many shelf slots
+--   recordSize       the bytes of a stamp record
 --   Row              a pair for each desk
 --   Seat, Held       a desk's seat; what a used mail place or shelf slot holds
 --   Tables           the seats, the mail places and the shelf slots
@@ -17,7 +19,7 @@
 --   zeros, idle, fresh        a row of zeros, a seat not started, the tables of a fresh book
 --   own b k          desk k's pair in its own seat; phases b k, its phase
 --   limit X k        the clock values of desk k: 0 up to it, it left out
---   freeMail b       the lowest free mail place, 32 where there is none; freeSlot likewise
+--   freeMail b       the lowest free mail place, places where there is none; freeSlot likewise
 --   tick, turn       a pair after local, send or receive; after a reset
 --   grown, merged, turned   a desk's row after local and send; after receive; after reset
 --   near X d         d where it is within reach
@@ -67,6 +69,12 @@ use Rattle.rules.specs.Numbers.{
   OutOfReach,
   given,
 }
+
+abbrev pub places : ℕ
+places = 32
+
+abbrev pub recordSize : ℕ
+recordSize = 20
 
 abbrev pub Row : Type 0
 Row = ℕ → Pair
@@ -208,10 +216,10 @@ abbrev pub limit : Setup → ℕ → ℕ
 limit X k = X .clocks
 
 abbrev pub freeMail : Tables → ℕ
-freeMail b = lowest 32 (λ p. not (used (b .mail p)))
+freeMail b = lowest places (λ p. not (used (b .mail p)))
 
 abbrev pub freeSlot : Tables → ℕ
-freeSlot b = lowest 32 (λ s. not (used (b .shelf s)))
+freeSlot b = lowest places (λ s. not (used (b .shelf s)))
 
 abbrev pub tick : Pair → Pair
 tick q = record { phase = q .phase; clock = q .clock + 1 }
@@ -252,10 +260,10 @@ abbrev pub noDesk : Setup → ℕ → Bool
 noDesk X j = not (ltb j (X .desks))
 
 abbrev pub noMail : Tables → ℕ → Bool
-noMail b p = not (used (b .mail p) && ltb p 32)
+noMail b p = not (used (b .mail p) && ltb p places)
 
 abbrev pub noSlot : Tables → ℕ → Bool
-noSlot b s = not (used (b .shelf s) && ltb s 32)
+noSlot b s = not (used (b .shelf s) && ltb s places)
 
 abbrev pub atLimit : Setup → Tables → ℕ → Bool
 atLimit X b j = not (ltb (own b j .clock + 1) (limit X j))
@@ -321,7 +329,7 @@ module _ (Z : Phases) (X : Setup) where
       ∷ given OutOfReach (isOut (gapFrom b s t) || isOut (gapFrom b t s))
       ∷ []
   askReasons b (askShow s) = given NoPlace (noSlot b s) ∷ []
-  askReasons b (askWrite s room) = given NoPlace (noSlot b s) ∷ given NoRoom (ltb room 20) ∷ []
+  askReasons b (askWrite s room) = given NoPlace (noSlot b s) ∷ given NoRoom (ltb room recordSize) ∷ []
 
   unfoldable pub reasons : Tables → Act → List Reason
   reasons b (local j) = given NoDesk (noDesk X j) ∷ given PhaseFull (atLimit X b j) ∷ []
@@ -329,7 +337,7 @@ module _ (Z : Phases) (X : Setup) where
       given NoDesk (noDesk X j || noDesk X k)
       ∷ given SameDesk (eqb j k)
       ∷ given PhaseFull (atLimit X b j)
-      ∷ given MailFull (not (ltb (freeMail b) 32))
+      ∷ given MailFull (not (ltb (freeMail b) places))
       ∷ []
   reasons b (receive j p) =
       given NoDesk (noDesk X j)
@@ -340,13 +348,13 @@ module _ (Z : Phases) (X : Setup) where
   reasons b (reset j) =
       given NoDesk (noDesk X j)
       ∷ given SeatBehind (any (X .desks) (seatLags Z b j (X .seatLag)))
-      ∷ given MailBehind (any 32 (λ p. lags Z b j (2 * X .seatLag) (b .mail p)))
-      ∷ given ShelfBehind (any 32 (λ s. lags Z b j (X .shelfLag) (b .shelf s)))
+      ∷ given MailBehind (any places (λ p. lags Z b j (2 * X .seatLag) (b .mail p)))
+      ∷ given ShelfBehind (any places (λ s. lags Z b j (X .shelfLag) (b .shelf s)))
       ∷ []
   reasons b (keep j) =
       given NoDesk (noDesk X j)
       ∷ given NoEvent (not (b .seat j .started))
-      ∷ given ShelfFull (not (ltb (freeSlot b) 32))
+      ∷ given ShelfFull (not (ltb (freeSlot b) places))
       ∷ []
   reasons b (drop s) = given NoPlace (noSlot b s) ∷ []
   reasons b (discard p) = given NoPlace (noMail b p) ∷ []
