@@ -11,7 +11,7 @@ use borrow.Author.Tests.{eqb-true, eq-eqb, ltb-true, lt-ltb, le-ltb}
 use lib.Dec.{ltb, eqb}
 use lib.ListN.{length, drop, length-drop}
 use lib.Seq.{getD-drop}
-use Rattle.tools.specs.Tests.{pick, allOf}
+use Rattle.tools.specs.Tests.{pick, allOf, allBelow}
 use Rattle.tools.specs.Lists.{byte, tab}
 use Rattle.tools.proofs.Tests.{each, all-at, all-in, lt-or-le}
 use Rattle.tools.proofs.Lists.{length-tab, tab-at, is-tab}
@@ -44,12 +44,12 @@ row-byte r e c l =
 
 -- a pair that reads
 module _ (X : Setup) (j : ℕ) (q : Pair) (h : pairReads X j q ≡ true) where
-  pub pair-phase : j < X .desks → q .phase < X .phases
+  pub pair-below : j < X .desks → (q .phase < X .phases) × (q .clock < X .clocks)
   unfolding pairReads
-  pair-phase l =
+  pair-below l =
       let p : allOf (ltb (q .phase) (X .phases) ∷ ltb (q .clock) (X .clocks) ∷ []) ≡ true
       = rw (pairReads, lt-ltb j (X .desks) l) at h in
-      ltb-true _ _ (each _ p 0)
+      (ltb-true _ _ (each _ p 0), ltb-true _ _ (each _ p 1))
 
   pair-zero : X .desks ≤ j → q ≡ zeros j
   unfolding pairReads
@@ -61,39 +61,66 @@ zero-reads : (X : Setup) (j : ℕ) → X .desks ≤ j → pairReads X j (zeros j
 unfolding pairReads allOf
 zero-reads X j l = rw (pairReads, le-ltb j (X .desks) l)
 
--- a record that reads, clause by clause
-module _ (X : Setup) (r : List ℕ) (h : readOk X r ≡ true) where
-  pub read-size : length r ≡ 20
-  unfolding readOk
-  read-size = eqb-true _ _ (each _ h 0)
+-- the clauses of a record that reads
+pub record Clauses (X : Setup) (r : List ℕ) : Type 0 where
+  pub size : length r ≡ 20
+  pub mark0 : byte r 0 ≡ 0x53
+  pub mark1 : byte r 1 ≡ 0x54
+  pub owner : byte r 2 < X .desks
+  pub desks : byte r 3 ≡ X .desks
+  pub pairs : allBelow 8 (λ j. pairReads X j (labelOf r .row j)) ≡ true
 
-  label-readable : X .desks ≤ 8 → Readable X (labelOf r)
+module _ (X : Setup) (r : List ℕ) where
+  pub read-clauses : readOk X r ≡ true → Clauses X r
   unfolding readOk
-  label-readable few =
+  read-clauses h =
       record {
-        owner = ltb-true (byte r 2) (X .desks) (each _ h 3);
-        row =
-            λ j.
-            ⊎-elim (λ (l : j < 8). all-at (λ j. pairReads X j (labelOf r .row j)) 8 j l (each _ h 5))
-            (λ (l : 8 ≤ j). rw (le-ltb j 8 l) (zero-reads X j (omega arith))) (lt-or-le j 8);
+        size = eqb-true _ _ (each _ h 0);
+        mark0 = eqb-true _ _ (each _ h 1);
+        mark1 = eqb-true _ _ (each _ h 2);
+        owner = ltb-true _ _ (each _ h 3);
+        desks = eqb-true _ _ (each _ h 4);
+        pairs = each _ h 5;
       }
 
-  label-written : writeStamp (X .desks) (labelOf r) ≡ r
-  unfolding readOk writeStamp
-  label-written =
-      sym (is-tab 20 (stampByte (X .desks) (labelOf r)) r read-size
-      (marked-bytes 0x53 0x54 _ (λ c v. byte r c ≡ v) (eqb-true (byte r 0) 0x53 (each _ h 1)) (eqb-true (byte r 1) 0x54 (each _ h 2)) refl
-      (eqb-true (byte r 3) (X .desks) (each _ h 4))
-      (λ c l. row-byte r read-size c l)))
+  module _ (h : Clauses X r) where
+    pub clauses-read : readOk X r ≡ true
+    unfolding readOk allOf
+    clauses-read =
+        rw (
+          readOk,
+          eq-eqb _ _ (h .size),
+          eq-eqb _ _ (h .mark0),
+          eq-eqb _ _ (h .mark1),
+          lt-ltb _ _ (h .owner),
+          eq-eqb _ _ (h .desks),
+          h .pairs,
+        )
+
+    label-readable : X .desks ≤ 8 → Readable X (labelOf r)
+    label-readable few =
+        record {
+          owner = h .owner;
+          row =
+              λ j.
+              ⊎-elim (λ (l : j < 8). all-at (λ j. pairReads X j (labelOf r .row j)) 8 j l (h .pairs))
+              (λ (l : 8 ≤ j). rw (le-ltb j 8 l) (zero-reads X j (omega arith))) (lt-or-le j 8);
+        }
+
+    label-written : writeStamp (X .desks) (labelOf r) ≡ r
+    unfolding writeStamp
+    label-written =
+        sym (is-tab 20 (stampByte (X .desks) (labelOf r)) r (h .size)
+        (marked-bytes 0x53 0x54 _ (λ c v. byte r c ≡ v) (h .mark0) (h .mark1) refl (h .desks) (λ c l. row-byte r (h .size) c l)))
 
 -- what reads is what the bytes tell
-pub stamp-told : (X : Setup) (r : List ℕ) (e : Label) → readStamp X r ≡ some e → (readOk X r ≡ true) × (labelOf r ≡ e)
+pub stamp-told : (X : Setup) (r : List ℕ) (e : Label) → readStamp X r ≡ some e → Clauses X r × (labelOf r ≡ e)
 unfolding readStamp
-stamp-told X r e = go (readOk X r)
+stamp-told X r e = go (readOk X r) refl
   where
-    go : (t : Bool) → pick t (some (labelOf r)) none ≡ some e → (t ≡ true) × (labelOf r ≡ e)
-    go true q = (refl, cc)
-    go false q = absurd (let z : _≡_ {A = ℕ} 0 1 = cc in omega arith)
+    go : (t : Bool) → readOk X r ≡ t → pick t (some (labelOf r)) none ≡ some e → Clauses X r × (labelOf r ≡ e)
+    go true h q = (read-clauses X r h, cc)
+    go false h q = absurd (let z : _≡_ {A = ℕ} 0 1 = cc in omega arith)
 
 -- every record that reads is the one that would be written
 pub write-read : (X : Setup) (r : List ℕ) (e : Label) → readStamp X r ≡ some e → writeStamp (X .desks) e ≡ r
@@ -137,22 +164,21 @@ module _ (X : Setup) (few : X .desks ≤ 8) where
         let r : labelOf written .row ≡ e .row = fun-ext row-told in
         λ i. record { owner = o i; row = r i }
 
-    written-reads : readOk X written ≡ true
-    unfolding readOk writeStamp markedByte allOf
-    written-reads =
-        rw (
-          readOk,
-          eq-eqb (length written) 20 (length-tab 0 20 (stampByte (X .desks) e)),
-          eq-eqb (byte written 0) 0x53 (written-at 0 (omega arith)),
-          eq-eqb (byte written 1) 0x54 (written-at 1 (omega arith)),
-          lt-ltb (byte written 2) (X .desks) (omega (arith, written-at 2 (omega arith), h .owner)),
-          eq-eqb (byte written 3) (X .desks) (written-at 3 (omega arith)),
-          all-in (λ j. pairReads X j (labelOf written .row j)) 8 (λ j l. ap (pairReads X j) (row-told j) ∙ h .row j),
-        )
+    written-clauses : Clauses X written
+    unfolding writeStamp markedByte
+    written-clauses =
+        record {
+          size = length-tab 0 20 (stampByte (X .desks) e);
+          mark0 = written-at 0 (omega arith);
+          mark1 = written-at 1 (omega arith);
+          owner = omega (arith, written-at 2 (omega arith), h .owner);
+          desks = written-at 3 (omega arith);
+          pairs = all-in (λ j. pairReads X j (labelOf written .row j)) 8 (λ j l. ap (pairReads X j) (row-told j) ∙ h .row j);
+        }
 
     pub read-write : readStamp X (writeStamp (X .desks) e) ≡ some e
     unfolding readStamp
-    read-write = rw (readStamp, written-reads) (ap some label-told)
+    read-write = rw (readStamp, clauses-read X written written-clauses) (ap some label-told)
 
 -- case 4 of document 01: the record of the stamp that local 0 answers on a fresh book
 pub case-4 : writeStamp 3 (record { owner = 0; row = grown fresh 0 })

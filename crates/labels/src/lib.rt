@@ -1,15 +1,14 @@
 // Stamp records: twenty bytes that tell a stamp, read and written; before, compare and newest of two of them.
 ghost use mathlib.Core.Path.{_≡_};
-ghost use mathlib.Core.Bool.{true};
-ghost use Prim.Native.Nat.{_+_, _*_, _<_, _≤_};
+ghost use Prim.Native.Nat.{_-_, _<_};
+ghost use lib.Dec.{ltb};
 ghost use lib.ListN.{length};
-ghost use Rattle.tools.specs.Tests.{allBelow};
-ghost use Rattle.tools.specs.Lists.{byte};
-ghost use Rattle.rules.specs.Labels.{gapOff, beforeOff, compareOff};
-ghost use Rattle.rules.specs.Replies.{rowOf, toldSays, comparedSays};
-ghost use Rattle.book.specs.Stamps.{writeStamp, pairReads, readOk, readStamp, labelOf};
-ghost use Rattle.comparing.specs.Ways.{WayOf};
-ghost use Rattle.labels.specs.Records.{readAs, readSays, rowBeside, Asked, newestOf};
+ghost use Rattle.tools.specs.Tests.{pick};
+ghost use Rattle.rules.specs.Labels.{ownerIn, beforeOff, compareOff};
+ghost use Rattle.rules.specs.Replies.{rowBytes, rowOf, toldSays, comparedSays};
+ghost use Rattle.book.specs.Stamps.{writeStamp, labelOf, pairReads, readStamp};
+ghost use Rattle.labels.specs.Limits.{lastOf, lastRow, Lasts, rowReads, headReads};
+ghost use Rattle.labels.specs.Records.{readAs, readSays, rowBeside, ownerRead, refusalIn, Both, WayRead, Asked, newestOf};
 use comparing::Way;
 use rules::Compared;
 use rules::Relation;
@@ -34,59 +33,115 @@ pub struct Reading {
     pub row: [u8; 16],
 }
 
-fn pair_reads(s: Setup, r: &[u8], j: usize) -> bool
-    requires { ⌜ (length (now r) ≡ 20) × (j < 8) ⌝ }
-    ensures { λ t. ⌜ t ≡ pairReads s j (labelOf (now (r .entry)) .row j) ⌝ }
+// The largest of so many numbers from 0 on, as far as a byte goes; 0 where there are none.
+fn last_of(count: usize) -> u8
+    ensures { λ r. ⌜ r ≡ lastOf count ⌝ }
 {
-    let phase = r[4 + 2 * j];
-    let clock = r[4 + (2 * j + 1)];
-    if s.desks <= j {
-        return (phase == 0) & (clock == 0);
+    if 255 < count {
+        return 255;
     }
-    (tools::wide(phase) < s.phases) & (tools::wide(clock) < s.clocks)
+    if count == 0 {
+        return 0;
+    }
+    (count - 1) as u8
 }
 
-fn pairs_read(s: Setup, r: &[u8]) -> bool
-    requires { ⌜ length (now r) ≡ 20 ⌝ }
-    ensures { λ t. ⌜ t ≡ allBelow 8 (λ j. pairReads s j (labelOf (now (r .entry)) .row j)) ⌝ }
+// The smaller of two.
+fn least(one: u8, other: u8) -> u8
+    ensures { λ r. ⌜ r ≡ pick (ltb one other) one other ⌝ }
 {
-    let mut j: usize = 0;
-    while j < 8 {
-        if !pair_reads(s, r, j) {
-            return false;
-        }
-        j += 1;
+    if one < other {
+        return one;
     }
-    true
+    other
 }
 
-fn read_ok(s: Setup, r: &[u8]) -> bool
-    ensures { λ t. ⌜ t ≡ readOk s (now (r .entry)) ⌝ }
+// How many of the eight desks that a row has room for are not there.
+fn missing(desks: usize) -> usize
+    ensures { λ r. ⌜ r ≡ 8 - desks ⌝ }
 {
-    if r.len() != 20 {
+    if desks < 8 {
+        return 8 - desks;
+    }
+    0
+}
+
+// The largest phase and clock of each desk, 0 where there is none. A desk is looked up, not tested for: so all sixteen are made at once.
+fn lasts_of(setup: Setup) -> [u8; 16]
+    ensures { λ r. ⌜ r ≡ rowBytes (lastRow setup) ⌝ }
+{
+    // The most that a byte can be, of eight desks that are there and of eight that are not.
+    let most = b"\xff\xff\xff\xff\xff\xff\xff\xff\0\0\0\0\0\0\0\0";
+    let from = missing(setup.desks);
+    let last = [last_of(setup.phases), last_of(setup.clocks)];
+    let mut lasts = [0u8; 16];
+    let mut c: usize = 0;
+    while c < 16 {
+        lasts[c] = least(last[c % 2], most[from + c / 2]);
+        c += 1;
+    }
+    lasts
+}
+
+fn pair_reads(lasts: &[u8; 16], bytes: &[u8], j: usize) -> bool
+    requires { ⌜ (length (now bytes) ≡ 20) × (j < 8) ⌝ }
+    ensures { λ r. ⌜ ((X : Setup) → Lasts X (now (lasts .entry)) → r ≡ pairReads X j (labelOf (now (bytes .entry)) .row j)) ⌝ }
+{
+    (bytes[4 + 2 * j] <= lasts[2 * j]) & (bytes[4 + (2 * j + 1)] <= lasts[2 * j + 1])
+}
+
+// No pair ends the loop early: so all eight are compared at once. Without a phase or a clock value no row reads.
+fn row_reads(setup: Setup, lasts: &[u8; 16], bytes: &[u8]) -> bool
+    requires { ⌜ now lasts ≡ rowBytes (lastRow setup) ⌝ }
+    ensures { λ r. ⌜ r ≡ rowReads setup (now (bytes .entry)) ⌝ }
+{
+    if bytes.len() != 20 {
         return false;
     }
-    (r[0] == MARK0)
-        & ((r[1] == MARK1)
-            & ((tools::wide(r[2]) < s.desks) & ((tools::wide(r[3]) == s.desks) & pairs_read(s, r))))
+    let mut ok = (0 < setup.phases) & (0 < setup.clocks);
+    let mut j: usize = 0;
+    while j < 8 {
+        ok = ok & pair_reads(lasts, bytes, j);
+        j += 1;
+    }
+    ok
+}
+
+fn head_reads(desks: usize, bytes: &[u8]) -> bool
+    requires { ⌜ length (now bytes) ≡ 20 ⌝ }
+    ensures { λ r. ⌜ r ≡ headReads desks (now (bytes .entry)) ⌝ }
+{
+    (bytes[0] == MARK0)
+        & ((bytes[1] == MARK1)
+            & ((tools::wide(bytes[2]) < desks) & (tools::wide(bytes[3]) == desks)))
+}
+
+// The owner of a record, or its refusal. Whether the row reads is asked apart: each function is then small enough to be put in place.
+fn who_of(setup: Setup, bytes: &[u8], ok: bool) -> Owner
+    requires { ⌜ ok ≡ rowReads setup (now bytes) ⌝ }
+    ensures { λ r. ⌜ r ≡ ownerRead (readStamp setup (now (bytes .entry))) ⌝ }
+{
+    if ok && head_reads(setup.desks, bytes) {
+        return Owner::Of(bytes[2]);
+    }
+    Owner::Refused(rules::BAD_STAMP)
 }
 
 // A record is read into a stamp or refused.
-pub fn read(s: Setup, r: &[u8]) -> Reading
-    ensures { λ x. ⌜ readSays x ≡ readAs (readStamp s (now (r .entry))) ⌝ }
+pub fn read(setup: Setup, bytes: &[u8]) -> Reading
+    ensures { λ x. ⌜ readSays x ≡ readAs (readStamp setup (now (bytes .entry))) ⌝ }
     ensures { λ x. ⌜ rowBeside (x .who) (x .row) ⌝ }
 {
-    if !read_ok(s, r) {
+    let lasts = lasts_of(setup);
+    let who = who_of(setup, bytes, row_reads(setup, &lasts, bytes));
+    let Owner::Of(_) = who else {
         return Reading {
-            who: Owner::Refused(rules::BAD_STAMP),
+            who: who,
             row: [0u8; 16],
         };
-    }
-    let row = tools::sixteen(r, 4);
-    Reading {
-        who: Owner::Of(r[2]),
-        row: row,
-    }
+    };
+    let row = tools::sixteen(bytes, 4);
+    Reading { who: who, row: row }
 }
 
 // The record of a stamp: mark, owner, D, row.
@@ -94,34 +149,33 @@ pub fn record_of(desks: u8, stamp: Stamp) -> [u8; 20]
     ensures { λ r. ⌜ r ≡ writeStamp desks (record { owner = stamp .owner; row = rowOf (stamp .row) }) ⌝ }
 {
     let row = stamp.row;
-    let mut r = [0u8; 20];
-    r[0] = MARK0;
-    r[1] = MARK1;
-    r[2] = stamp.owner;
-    r[3] = desks;
+    let mut bytes = [0u8; 20];
+    bytes[0] = MARK0;
+    bytes[1] = MARK1;
+    bytes[2] = stamp.owner;
+    bytes[3] = desks;
     let mut c: usize = 4;
     while c < 20 {
-        r[c] = row[c - 4];
+        bytes[c] = row[c - 4];
         c += 1;
     }
-    r
+    bytes
 }
 
-// The way from the row e of desk j to the row f, by their phases alone: r is (phase in f minus phase in e) modulo P, and
-// d is r if r <= n-1, else r-P.
-fn way(s: Setup, j: u8, e: [u8; 16], f: [u8; 16]) -> Way
-    requires { ⌜ (j < s .desks) × (s .desks ≤ 8) × (s .phases ≤ 255) ⌝ }
-    requires { ⌜ (1 ≤ s .back) × (1 ≤ s .ahead) × (s .ahead ≤ 255) ⌝ }
-    requires { ⌜ (byte e (2 * j) < s .phases) × (byte f (2 * j) < s .phases) ⌝ }
-    ensures { λ w. ⌜ WayOf s (gapOff s j (rowOf e) (rowOf f)) j (rowOf e) (rowOf f) w ⌝ }
+// The way from the record of an owner to another, by their phases alone: r is (phase in the second minus phase in the first)
+// modulo P, and d is r if r <= n-1, else r-P.
+fn way(setup: Setup, owner: u8, first: &[u8], second: &[u8]) -> Way
+    requires { ⌜ Both setup (now first) (now second) ⌝ }
+    requires { ⌜ ownerIn (readStamp setup (now first)) ≡ owner ⌝ }
+    ensures { λ w. ⌜ WayRead setup (now (first .entry)) (now (second .entry)) owner w ⌝ }
 {
-    let i = 2 * tools::wide(j);
-    let from = e[i + 1];
-    let to = f[i + 1];
-    let p = s.phases as u8;
-    let n = s.ahead as u8;
-    let old = e[i];
-    let new = f[i];
+    let i = 4 + 2 * tools::wide(owner);
+    let from = first[i + 1];
+    let to = second[i + 1];
+    let p = setup.phases as u8;
+    let n = setup.ahead as u8;
+    let old = first[i];
+    let new = second[i];
     let r = ring::lag(new, old, p);
     if r < n {
         return Way {
@@ -139,88 +193,82 @@ fn way(s: Setup, j: u8, e: [u8; 16], f: [u8; 16]) -> Way
     }
 }
 
-// Two records taken apart: the owners and the ways there and back, or the number of the refusal.
-enum Question {
-    Between { j: u8, k: u8, there: Way, back: Way },
+// The owners of two records, or the number of the refusal.
+enum Owners {
+    Of { owner: u8, other: u8 },
     Refused(u8),
 }
 
-fn taken_apart(s: Setup, e: &[u8], f: &[u8]) -> Question
-    ensures { λ q. ⌜ Asked s (readStamp s (now (e .entry))) (readStamp s (now (f .entry))) q ⌝ }
+// The number that a record is refused by.
+fn refusal_of(who: Owner) -> u8
+    ensures { λ r. ⌜ r ≡ refusalIn who ⌝ }
 {
-    if !rules::permits(s) {
-        return Question::Refused(rules::BAD_SETUP);
+    match who {
+        Owner::Of(_) => rules::DONE,
+        Owner::Refused(n) => n,
     }
-    let one = read(s, e);
-    let one_who = one.who;
-    let one_row = one.row;
-    let Owner::Of(j) = one_who else {
-        return Question::Refused(rules::BAD_STAMP);
+}
+
+fn owners_of(setup: Setup, first: &[u8], second: &[u8]) -> Owners
+    ensures { λ q. ⌜ Asked setup (now (first .entry)) (now (second .entry)) q ⌝ }
+{
+    if !rules::permits(setup) {
+        return Owners::Refused(rules::BAD_SETUP);
+    }
+    let lasts = lasts_of(setup);
+    let one = who_of(setup, first, row_reads(setup, &lasts, first));
+    let Owner::Of(owner) = one else {
+        return Owners::Refused(refusal_of(one));
     };
-    let two = read(s, f);
-    let two_who = two.who;
-    let two_row = two.row;
-    let Owner::Of(k) = two_who else {
-        return Question::Refused(rules::BAD_STAMP);
+    let two = who_of(setup, second, row_reads(setup, &lasts, second));
+    let Owner::Of(other) = two else {
+        return Owners::Refused(refusal_of(two));
     };
-    let there = way(s, j, one_row, two_row);
-    let back = way(s, k, two_row, one_row);
-    Question::Between { j, k, there, back }
+    Owners::Of { owner, other }
 }
 
 // Before, off the book.
-pub fn before(s: Setup, e: &[u8], f: &[u8]) -> Told
-    ensures { λ r. ⌜ toldSays r ≡ beforeOff s (readStamp s (now (e .entry))) (readStamp s (now (f .entry))) ⌝ }
+pub fn before(setup: Setup, first: &[u8], second: &[u8]) -> Told
+    ensures { λ r. ⌜ toldSays r ≡ beforeOff setup (readStamp setup (now (first .entry))) (readStamp setup (now (second .entry))) ⌝ }
 {
-    let asked = taken_apart(s, e, f);
-    match asked {
-        Question::Refused(n) => Told::Refused(n),
-        Question::Between {
-            j,
-            k,
-            there,
-            back: _,
-        } => {
-            if comparing::out_of_reach(s, there) {
-                return Told::Refused(rules::OUT_OF_REACH);
-            }
-            if comparing::is_before(j, k, there) {
-                return Told::Yes;
-            }
-            Told::No
+    let owners = owners_of(setup, first, second);
+    match owners {
+        Owners::Refused(n) => Told::Refused(n),
+        Owners::Of { owner, other } => {
+            let there = way(setup, owner, first, second);
+            comparing::told(setup, owner, other, there)
         }
     }
 }
 
-// Compare, off the book: it asks both ways and needs both within reach.
-pub fn compare(s: Setup, e: &[u8], f: &[u8]) -> Compared
-    ensures { λ r. ⌜ comparedSays r ≡ compareOff s (readStamp s (now (e .entry))) (readStamp s (now (f .entry))) ⌝ }
+// Compare, off the book.
+pub fn compare(setup: Setup, first: &[u8], second: &[u8]) -> Compared
+    ensures { λ r. ⌜ comparedSays r ≡ compareOff setup (readStamp setup (now (first .entry))) (readStamp setup (now (second .entry))) ⌝ }
 {
-    let asked = taken_apart(s, e, f);
-    match asked {
-        Question::Refused(n) => Compared::Refused(n),
-        Question::Between { j, k, there, back } => {
-            if comparing::out_of_reach(s, there) | comparing::out_of_reach(s, back) {
-                return Compared::Refused(rules::OUT_OF_REACH);
-            }
-            Compared::Is(comparing::relation(j, k, there, back))
+    let owners = owners_of(setup, first, second);
+    match owners {
+        Owners::Refused(n) => Compared::Refused(n),
+        Owners::Of { owner, other } => {
+            let there = way(setup, owner, first, second);
+            let back = way(setup, other, second, first);
+            comparing::compared(setup, owner, other, there, back)
         }
     }
 }
 
 // Newest: of two lent records the one that is after the other, the first if they are the same, else an empty part of the first.
-pub fn newest<'a>(s: Setup, a: &'a [u8], b: &'a [u8]) -> &'a [u8]
-    ensures { λ r. ⌜ now r ≡ newestOf s (now (a .entry)) (now (b .entry)) ⌝ }
+pub fn newest<'a>(setup: Setup, first: &'a [u8], second: &'a [u8]) -> &'a [u8]
+    ensures { λ r. ⌜ now r ≡ newestOf setup (now (first .entry)) (now (second .entry)) ⌝ }
 {
-    let says = compare(s, a, b);
+    let says = compare(setup, first, second);
     let Compared::Is(relation) = says else {
-        return &a[0..0];
+        return &first[0..0];
     };
     match relation {
-        Relation::After => a,
-        Relation::Same => a,
-        Relation::Before => b,
-        Relation::Concurrent => &a[0..0],
-        Relation::Crossed => &a[0..0],
+        Relation::After => first,
+        Relation::Same => first,
+        Relation::Before => second,
+        Relation::Concurrent => &first[0..0],
+        Relation::Crossed => &first[0..0],
     }
 }

@@ -17,10 +17,11 @@ use Rattle.labels.proofs.record_of.Statement.{statement}
 use Rattle.labels.proofs.record_of.Tie as tie
 
 abbrev Inv-loop : tie.InvT-loop
-Inv-loop desks row r₀ c₀ r c = (4 ≤ c) × (c ≤ 20) × Filled 20 c (λ i. pick (ltb i 4) (byte r₀ i) (byte row (i - 4))) r
+Inv-loop desks row bytes₀ c₀ bytes c =
+    (4 ≤ c) × (c ≤ 20) × Filled 20 c (λ i. pick (ltb i 4) (byte bytes₀ i) (byte row (i - 4))) bytes
 
 abbrev μ-loop : tie.MeasureT-loop
-μ-loop desks row r₀ c₀ r c = 20 - c
+μ-loop desks row bytes₀ c₀ bytes c = 20 - c
 
 loop-holds : tie.Need-loop-holds Inv-loop μ-loop
 loop-holds c =
@@ -29,11 +30,11 @@ loop-holds c =
 loop-again : tie.Need-loop-again Inv-loop μ-loop
 loop-again c =
     let h = c .before .loop in
-    (omega arith, omega arith, filled-more 20 (h .c) _ (h .r) _ (h .inv .2) (omega arith) (sym (rw (le-ltb (h .c) 4 (omega arith)))))
+    (omega arith, omega arith, filled-more 20 (h .c) _ (h .bytes) _ (h .inv .2) (omega arith) (sym (rw (le-ltb (h .c) 4 (omega arith)))))
 
 returns : tie.Need-returns Inv-loop μ-loop
 unfolding tab writeStamp markedByte rowByte
-returns c = let h = c .before .loop in let e : h .c ≡ 20 = omega arith in filled-all 20 _ (h .r) (rw e at (h .inv .2))
+returns c = let h = c .before .loop in let e : h .c ≡ 20 = omega arith in filled-all 20 _ (h .bytes) (rw e at (h .inv .2))
 
 pub record-of-spec : {M : Type 1} → statement M
 record-of-spec =
