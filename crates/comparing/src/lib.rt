@@ -23,7 +23,7 @@ pub struct Way {
 }
 
 // Whether a question is out of reach: d does not lie from -(m-1) to n-1.
-pub fn out_of_reach(setup: Setup, way: Way) -> bool
+fn out_of_reach(setup: Setup, way: Way) -> bool
     requires { ⌜ (setup .back ≤ 255) × (setup .ahead ≤ 255) ⌝ }
     ensures { λ r. ⌜ r ≡ isOut (near setup (gapOf way)) ⌝ }
 {
@@ -40,14 +40,14 @@ fn same_by(way: Way) -> bool
 }
 
 // Whether the owner's stamp is before the other's, by the way there.
-pub fn is_before(owner: u8, other: u8, there: Way) -> bool
+fn is_before(owner: u8, other: u8, there: Way) -> bool
     ensures { λ r. ⌜ ((e f : Row) → Clocked there owner e f → r ≡ isBefore (gapOf there) owner other e f) ⌝ }
 {
     ring::later_by(there.up, there.down, there.from, there.to) | ((owner != other) & same_by(there))
 }
 
 // How the owner's stamp stands to the other's, which asks both ways: there and back.
-pub fn relation(owner: u8, other: u8, there: Way, back: Way) -> Relation
+fn relation(owner: u8, other: u8, there: Way, back: Way) -> Relation
     ensures { λ r. ⌜ ((e f : Row) → Clocked there owner e f → Clocked back other f e → r ≡ Model.relation (gapOf there) (gapOf back) owner other e f) ⌝ }
 {
     if (owner == other) & same_by(there) {

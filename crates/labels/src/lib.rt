@@ -5,6 +5,7 @@ ghost use lib.Dec.{ltb};
 ghost use lib.ListN.{length};
 ghost use Rattle.tools.specs.Tests.{pick};
 ghost use Rattle.rules.specs.Labels.{ownerIn, beforeOff, compareOff};
+ghost use Rattle.rules.specs.Model.{recordSize};
 ghost use Rattle.rules.specs.Replies.{rowBytes, rowOf, toldSays, comparedSays};
 ghost use Rattle.book.specs.Stamps.{writeStamp, labelOf, pairReads, readStamp};
 ghost use Rattle.labels.specs.Limits.{lastOf, lastRow, Lasts, rowReads, headReads};
@@ -84,10 +85,11 @@ fn lasts_of(setup: Setup) -> [u8; 16]
 }
 
 fn pair_reads(lasts: &[u8; 16], bytes: &[u8], j: usize) -> bool
-    requires { ⌜ (length (now bytes) ≡ 20) × (j < 8) ⌝ }
+    requires { ⌜ (length (now bytes) ≡ recordSize) × (j < 8) ⌝ }
     ensures { λ r. ⌜ ((X : Setup) → Lasts X (now (lasts .entry)) → r ≡ pairReads X j (labelOf (now (bytes .entry)) .row j)) ⌝ }
 {
-    (bytes[4 + 2 * j] <= lasts[2 * j]) & (bytes[4 + (2 * j + 1)] <= lasts[2 * j + 1])
+    (bytes[parts::ROW + 2 * j] <= lasts[2 * j])
+        & (bytes[parts::ROW + (2 * j + 1)] <= lasts[2 * j + 1])
 }
 
 // No pair ends the loop early: so all eight are compared at once. Without a phase or a clock value no row reads.
@@ -95,7 +97,7 @@ fn row_reads(setup: Setup, lasts: &[u8; 16], bytes: &[u8]) -> bool
     requires { ⌜ now lasts ≡ rowBytes (lastRow setup) ⌝ }
     ensures { λ r. ⌜ r ≡ rowReads setup (now (bytes .entry)) ⌝ }
 {
-    if bytes.len() != 20 {
+    if bytes.len() != parts::RECORD_BYTES {
         return false;
     }
     let mut ok = (0 < setup.phases) & (0 < setup.clocks);
@@ -108,7 +110,7 @@ fn row_reads(setup: Setup, lasts: &[u8; 16], bytes: &[u8]) -> bool
 }
 
 fn head_reads(desks: usize, bytes: &[u8]) -> bool
-    requires { ⌜ length (now bytes) ≡ 20 ⌝ }
+    requires { ⌜ length (now bytes) ≡ recordSize ⌝ }
     ensures { λ r. ⌜ r ≡ headReads desks (now (bytes .entry)) ⌝ }
 {
     (bytes[0] == MARK0)
@@ -140,7 +142,7 @@ pub fn read(setup: Setup, bytes: &[u8]) -> Reading
             row: [0u8; 16],
         };
     };
-    let row = tools::sixteen(bytes, 4);
+    let row = tools::sixteen(bytes, parts::ROW);
     Reading { who: who, row: row }
 }
 
@@ -154,9 +156,9 @@ pub fn record_of(desks: u8, stamp: Stamp) -> [u8; 20]
     bytes[1] = MARK1;
     bytes[2] = stamp.owner;
     bytes[3] = desks;
-    let mut c: usize = 4;
-    while c < 20 {
-        bytes[c] = row[c - 4];
+    let mut c: usize = parts::ROW;
+    while c < parts::RECORD_BYTES {
+        bytes[c] = row[c - parts::ROW];
         c += 1;
     }
     bytes
@@ -169,14 +171,14 @@ fn way(setup: Setup, owner: u8, first: &[u8], second: &[u8]) -> Way
     requires { ⌜ ownerIn (readStamp setup (now first)) ≡ owner ⌝ }
     ensures { λ w. ⌜ WayRead setup (now (first .entry)) (now (second .entry)) owner w ⌝ }
 {
-    let i = 4 + 2 * tools::wide(owner);
+    let i = parts::ROW + 2 * tools::wide(owner);
     let from = first[i + 1];
     let to = second[i + 1];
     let p = setup.phases as u8;
     let n = setup.ahead as u8;
-    let old = first[i];
-    let new = second[i];
-    let r = ring::lag(new, old, p);
+    let first_phase = first[i];
+    let second_phase = second[i];
+    let r = ring::lag(second_phase, first_phase, p);
     if r < n {
         return Way {
             up: r,

@@ -70,10 +70,10 @@ fn is_later(book: &[u8], held: usize, mailed: usize, desk: usize) -> bool
 {
     let own = parts::phase_at(book, desk, desk);
     let phases = parts::phases_of(book);
-    let old = parts::phase_at(book, held, desk);
-    let new = parts::phase_at(book, mailed, desk);
-    let up = ring::lag(own, old, phases);
-    let down = ring::lag(own, new, phases);
+    let held_phase = parts::phase_at(book, held, desk);
+    let mailed_phase = parts::phase_at(book, mailed, desk);
+    let up = ring::lag(own, held_phase, phases);
+    let down = ring::lag(own, mailed_phase, phases);
     let from = parts::clock_at(book, held, desk);
     let to = parts::clock_at(book, mailed, desk);
     ring::later_by(up, down, from, to)

@@ -25,11 +25,11 @@ cast-p c = let r = asks (c .before .before .before .before .before .before) in o
 cast-n : tie.Need-cast-n
 cast-n c = let r = asks (c .before .before .before .before .before .before .before) in omega arith
 
-shared-slice-read-old : tie.Need-shared-slice-read-old
-shared-slice-read-old c = let r = asks (c .before .before .before .before .before .before .before .before) in omega arith
+shared-slice-read-first-phase : tie.Need-shared-slice-read-first-phase
+shared-slice-read-first-phase c = let r = asks (c .before .before .before .before .before .before .before .before) in omega arith
 
-shared-slice-read-new : tie.Need-shared-slice-read-new
-shared-slice-read-new c = let r = asks (c .before .before .before .before .before .before .before .before .before) in omega arith
+shared-slice-read-second-phase : tie.Need-shared-slice-read-second-phase
+shared-slice-read-second-phase c = let r = asks (c .before .before .before .before .before .before .before .before .before) in omega arith
 
 lag-requires : tie.Need-lag-requires
 lag-requires c κs =
@@ -64,4 +64,4 @@ way-spec =
     tie.close
     (tie.spec
     (λ c κs. search needs) (λ c. search needs) (λ c. search needs) (λ c. search needs) shared-slice-read-from (λ c. search needs)
-    shared-slice-read-to cast-p cast-n shared-slice-read-old shared-slice-read-new lag-requires returns sub-t16 returns-2)
+    shared-slice-read-to cast-p cast-n shared-slice-read-first-phase shared-slice-read-second-phase lag-requires returns sub-t16 returns-2)
