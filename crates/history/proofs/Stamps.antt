@@ -11,14 +11,14 @@ use Rattle.tools.proofs.Tables.{put-same, put-other, some-is, none-some}
 use Rattle.ring.specs.Phases.{line}
 use Rattle.rules.specs.declared.Setup.{Setup}
 use Rattle.rules.specs.Setups.{permits}
-use Rattle.rules.specs.Model.{Row, Held, Label, Question, askBefore, askCompare, askShow, askWrite, Act, local, reset, keep, drop, discard, send, receive, ask, slotOf}
+use Rattle.rules.specs.Model.{Row, Held, Label, Question, slotAsked, Act, local, reset, keep, drop, discard, send, receive, ask, slotOf}
 use Rattle.rules.specs.Model.{Value, Answer, byIn, rowIn, used, why, askTells, done, step, settle}
 use Rattle.rules.specs.Calls.{Book, Call, start, on, call}
-use Rattle.history.specs.Round.{modulo, mapHeld, mapValue, roundRow, roundBook}
+use Rattle.history.specs.Round.{modulo, mapHeld, mapStamp, mapShown, mapValue, roundRow, roundBook}
 use Rattle.history.specs.History.{Kind, Log, History, State, logged, adds, kept-if, none-yet, begin, next, after, logAfter, setupAfter}
-use Rattle.history.specs.Stamps.{labelOf, StampOf, ownerAt, stampIn, stampGiven, eventOf, Ongoing, Answered}
+use Rattle.history.specs.Stamps.{labelOf, StampOf, ownerAt, orShown, stampIn, stampGiven, eventAt, eventOf, Ongoing, Answered}
 use Rattle.rules.proofs.Steps.{step-number}
-use Rattle.rules.proofs.Accepted.{no-ask}
+use Rattle.rules.proofs.Accepted.{no-ask, Hands, no-stamp, row-of, stamp-of, hands}
 use Rattle.history.proofs.Good.{Behind}
 use Rattle.history.proofs.Runs.{startTurn, Faithful, faithful-run, after-append}
 use Rattle.history.proofs.Alike.{act-alike, ring-book}
@@ -160,17 +160,33 @@ module _ (s : State) (w : Faithful s) where
   ask-stamp : (a : Question) → why line (now s) (s .book .tables) (ask a) ≡ 0 → (e : Label)
       → roundStamp s (ask a) (askTells line (now s) (s .book .tables) a) ≡ some e
       → StampIn s (eventOf (s .history) (ask a)) e
-  unfolding askTells
-  ask-stamp (askBefore t u) z e q = absurd (none-some q)
-  ask-stamp (askCompare t u) z e q = absurd (none-some q)
-  ask-stamp (askShow t) z e q =
-      subst (StampIn s (s .history .kept t))
-      (some-is
-      ((λ i. some record { owner = by-round (now s .phases) (slot-now t) i; row = roundRow (now s .phases) (rowIn (slot-now t)) }) ∙ q))
-      (kept-stamp t (no-ask line (now s) (s .book .tables) (askShow t) t refl z .0))
-  ask-stamp (askWrite t room) z e q =
-      subst (StampIn s (s .history .kept t)) (some-is q)
-      (kept-stamp t (no-ask line (now s) (s .book .tables) (askWrite t room) t refl z .0))
+  ask-stamp a z e q = go (hands line (now s) (s .book .tables) a)
+    where
+      -- the stamp that is handed out, by the slot and the value
+      handed : (o : Option ℕ) (v : Value) → slotAsked a ≡ o → askTells line (now s) (s .book .tables) a ≡ v
+          → stampIn (ownerAt (roundBook (s .book) .tables) o) (mapValue (modulo (now s .phases)) v) ≡ some e
+      handed o v n m =
+          sym (λ i. stampIn (ownerAt (roundBook (s .book) .tables) (n i)) (mapValue (modulo (now s .phases)) (m i))) ∙ q
+
+      -- the stamp of the slot
+      kept : (t : ℕ) → slotAsked a ≡ some t
+          → record { owner = byIn (slot-now t); row = roundRow (now s .phases) (rowIn (slot-now t)) } ≡ e
+          → StampIn s (eventOf (s .history) (ask a)) e
+      kept t n m =
+          subst (λ (o : Option ℕ). StampIn s (eventAt (s .history) o) e) (sym n)
+          (subst (StampIn s (s .history .kept t)) m (kept-stamp t (no-ask line (now s) (s .book .tables) a t n z .0)))
+
+      go : Hands line (now s) (s .book .tables) a → StampIn s (eventOf (s .history) (ask a)) e
+      go (no-stamp n m r) =
+          absurd (none-some
+          (sym (λ i. orShown (ownerAt (roundBook (s .book) .tables) (slotAsked a)) (mapStamp (modulo (now s .phases)) (m i))
+          (mapShown (modulo (now s .phases)) (r i))) ∙ q))
+      go (row-of t n m) =
+          kept t n
+          (some-is
+          ((λ i. some record { owner = by-round (now s .phases) (slot-now t) i; row = roundRow (now s .phases) (rowIn (slot-now t)) })
+          ∙ handed (some t) _ n m))
+      go (stamp-of t n m) = kept t n (some-is (handed (some t) _ n m))
 
   done-stamp : (c : Act) → why line (now s) (s .book .tables) c ≡ 0 → (e : Label)
       → roundStamp s c (done line (now s) (s .book .tables) c .answer .value) ≡ some e

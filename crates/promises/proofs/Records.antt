@@ -15,7 +15,7 @@ use Rattle.tools.specs.Tables.{Each}
 use Rattle.tools.proofs.Tables.{put-same, some-is, none-some}
 use Rattle.ring.specs.Phases.{Pair, ring}
 use Rattle.rules.specs.declared.Setup.{Setup}
-use Rattle.rules.specs.Model.{Row, Seat, Held, Tables, Label, Question, askBefore, askCompare, askShow, askWrite, slotAsked}
+use Rattle.rules.specs.Model.{Row, Seat, Held, Tables, Label, Question, slotAsked, Value}
 use Rattle.rules.specs.Model.{Act, local, reset, keep, drop, discard, send, receive, ask, before, compare, write, slotOf}
 use Rattle.rules.specs.Model.{Answer, byIn, rowIn, used, why, askTells, done, step, settle}
 use Rattle.rules.specs.Labels.{newestOff}
@@ -24,7 +24,7 @@ use Rattle.rules.specs.Setups.{permits}
 use Rattle.rules.specs.Calls.{Book, Call, start, on, call}
 use Rattle.history.specs.History.{State, begin, next, after, logAfter, setupAfter}
 use Rattle.history.specs.Round.{roundBook}
-use Rattle.history.specs.Stamps.{labelOf, ownerAt, stampIn, stampGiven, Answered}
+use Rattle.history.specs.Stamps.{labelOf, ownerAt, orShown, stampIn, stampGiven, Answered}
 use Rattle.history.specs.Demand.{InReach, BeforeSaid, CompareSaid}
 use Rattle.history.proofs.Labels.{off-before, off-compare, off-newest}
 use Rattle.history.proofs.Agree.{state-agree-before, state-agree-compare}
@@ -32,7 +32,7 @@ use Rattle.history.proofs.Alike.{ring-book}
 use Rattle.rules.proofs.Setups.{Permitted, permitted}
 use Rattle.history.proofs.Runs.{after-append}
 use Rattle.history.proofs.Stamps.{next-setup, setup-stays}
-use Rattle.rules.proofs.Accepted.{no-local, no-send, no-receive, no-reset, no-ask}
+use Rattle.rules.proofs.Accepted.{no-local, no-send, no-receive, no-reset, no-ask, Hands, no-stamp, row-of, stamp-of, hands}
 use Rattle.book.proofs.Fits.{done-fits}
 use Rattle.book.specs.Codec.{decode}
 use Rattle.book.specs.Stamps.{pairReads, writeStamp, readStamp, filled}
@@ -73,15 +73,21 @@ module _ (X : Setup) (ok : Permitted X) (b : Tables) (w : Fits X b) where
       (row-label X _ (X .seatLag) j r l
       (subst (RowFits X _ (X .seatLag)) q (done-fits X ok b w c z .seats j l)))
 
+  -- a question hands out no stamp but that of its slot
   ask-label : (q : Question) → why (ring (X .phases)) X b (ask q) ≡ 0 → (e : Label)
       → stampIn (ownerAt b (slotAsked q)) (askTells (ring (X .phases)) X b q) ≡ some e → Readable X e
-  unfolding askTells
-  ask-label (askBefore s t) z e p = absurd (none-some p)
-  ask-label (askCompare s t) z e p = absurd (none-some p)
-  ask-label (askShow s) z e p =
-      subst (Readable X) (some-is p) (held-label X _ s (b .shelf s) (w .shelf s) (no-ask _ X b (askShow s) s refl z .0))
-  ask-label (askWrite s room) z e p =
-      subst (Readable X) (some-is p) (held-label X _ s (b .shelf s) (w .shelf s) (no-ask _ X b (askWrite s room) s refl z .0))
+  ask-label q z e p = go (hands (ring (X .phases)) X b q)
+    where
+      kept : (s : ℕ) → slotAsked q ≡ some s → (v : Value) → askTells (ring (X .phases)) X b q ≡ v
+          → stampIn (byIn (b .shelf s)) v ≡ some record { owner = byIn (b .shelf s); row = rowIn (b .shelf s) } → Readable X e
+      kept s n v m h =
+          subst (Readable X) (some-is (sym h ∙ sym (λ i. stampIn (ownerAt b (n i)) (m i)) ∙ p))
+          (held-label X _ s (b .shelf s) (w .shelf s) (no-ask _ X b q s n z .0))
+
+      go : Hands (ring (X .phases)) X b q → Readable X e
+      go (no-stamp n m r) = absurd (none-some (sym (λ i. orShown (ownerAt b (slotAsked q)) (m i) (r i)) ∙ p))
+      go (row-of s n m) = kept s n _ m refl
+      go (stamp-of s n m) = kept s n _ m refl
 
   done-label : (c : Act) → why (ring (X .phases)) X b c ≡ 0 → (e : Label)
       → stampIn (ownerAt b (slotOf c)) (done (ring (X .phases)) X b c .answer .value) ≡ some e → Readable X e

@@ -1,7 +1,7 @@
 -- What an accepted act was not refused by: each law takes apart that no reason was given.
 -- Assumes nothing.
-use mathlib.Core.Path.{_≡_, subst}
-use mathlib.Core.Option.{some}
+use mathlib.Core.Path.{_≡_, refl, subst}
+use mathlib.Core.Option.{none, some}
 use mathlib.Core.Bool.{true, false, not, _&&_, _||_}
 use Prim.Native.Nat.{ℕ, _+_, _*_, _<_}
 use lib.Dec.{ltb, eqb}
@@ -13,7 +13,7 @@ use Rattle.tools.proofs.Reasons.{clear}
 use Rattle.ring.specs.Phases.{Phases}
 use Rattle.rules.specs.declared.Setup.{Setup}
 use Rattle.rules.specs.Model.{Tables, Question, askBefore, askCompare, askShow, askWrite, slotAsked, local, reset, keep, send, receive, ask, askReasons, reasons, why}
-use Rattle.rules.specs.Model.{freeMail, freeSlot, toIn, used, own, lags, seatLags}
+use Rattle.rules.specs.Model.{stamp, shows, freeMail, freeSlot, toIn, byIn, rowIn, used, own, lags, seatLags, askTells}
 
 pub no-local : (Z : Phases) (X : Setup) (b : Tables) (j : ℕ) → why Z X b (local j) ≡ 0 → (j < X .desks) × (own b j .clock + 1 < X .clocks)
 unfolding reasons
@@ -91,3 +91,17 @@ no-ask Z X b (askShow u) s e z =
 no-ask Z X b (askWrite u room) s e z =
     subst (λ n. (used (b .shelf n) ≡ true) × (n < 32)) (some-is e)
     (used-slot b u (clear (not (used (b .shelf u) && ltb u 32)) 4 _ z .0))
+
+-- what a question hands out: no stamp; or of its slot the row alone, or the stamp
+module _ (Z : Phases) (X : Setup) (b : Tables) where
+  pub data Hands (q : Question) : Type 0 where
+    no-stamp : slotAsked q ≡ none → askTells Z X b q .stamp ≡ none → askTells Z X b q .row ≡ none → Hands q
+    row-of : (s : ℕ) → slotAsked q ≡ some s → askTells Z X b q ≡ shows (rowIn (b .shelf s)) → Hands q
+    stamp-of : (s : ℕ) → slotAsked q ≡ some s → askTells Z X b q ≡ stamp (byIn (b .shelf s)) (rowIn (b .shelf s)) → Hands q
+
+  pub hands : (q : Question) → Hands q
+  unfolding askTells
+  hands (askBefore s t) = no-stamp refl refl refl
+  hands (askCompare s t) = no-stamp refl refl refl
+  hands (askShow s) = row-of s refl refl
+  hands (askWrite s room) = stamp-of s refl refl
