@@ -28,7 +28,8 @@ use Rattle.comparing.specs.Answers.{beforeBy, compareBy}
 use Rattle.comparing.proofs.Answers.{before-off, compare-off}
 use Rattle.labels.specs.declared.Owner.{Owner}
 use Rattle.labels.specs.declared.Owner.the-variants.{Of, Refused}
-use Rattle.labels.specs.Records.{readAs, ownerSays, rowBeside, ownerRead, Both, WayRead, Owned, newestPart}
+use Rattle.labels.specs.Records.{readAs, ownerSays, rowBeside, newestPart}
+use Rattle.labels.specs.Asked.{ownerRead, Both, WayRead, Owned}
 use Rattle.labels.proofs.Records.{label-pair, row-dropped, pair-below, stamp-told, read-readable}
 
 -- a record that reads tells what its bytes do

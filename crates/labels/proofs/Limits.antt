@@ -24,7 +24,7 @@ use Rattle.rules.proofs.RowBytes.{row-phase, row-clock}
 use Rattle.book.specs.Stamps.{labelOf, pairReads, readOk, readStamp}
 use Rattle.labels.specs.declared.Owner.the-variants.{Of, Refused}
 use Rattle.labels.specs.Limits.{lastOf, lastRow, Lasts, rowReads, headReads}
-use Rattle.labels.specs.Records.{ownerRead}
+use Rattle.labels.specs.Asked.{ownerRead}
 use Rattle.labels.proofs.Records.{pair-below, Clauses, read-clauses, clauses-read}
 
 -- the lesser of two numbers, as `least` tells it

@@ -1,7 +1,7 @@
 -- `labels::before` meets its contract.
 -- Assumes nothing.
 use borrow.Author.Needs.{needs}
-use Rattle.labels.specs.Records.{Owned}
+use Rattle.labels.specs.Asked.{Owned}
 use Rattle.labels.proofs.Answered.{before-refused, within-bytes, before-answered}
 use Rattle.labels.proofs.before.Statement.{statement}
 use Rattle.labels.proofs.before.Tie as tie

@@ -1,7 +1,7 @@
 -- `labels::compare` meets its contract.
 -- Assumes nothing.
 use borrow.Author.Needs.{needs}
-use Rattle.labels.specs.Records.{Owned}
+use Rattle.labels.specs.Asked.{Owned}
 use Rattle.labels.proofs.Answered.{flipped, compare-refused, within-bytes, compare-answered}
 use Rattle.labels.proofs.compare.Statement.{statement}
 use Rattle.labels.proofs.compare.Tie as tie

@@ -8,7 +8,7 @@ use borrow.Author.Needs.{needs}
 use Rattle.rules.specs.Setups.{permits}
 use Rattle.rules.specs.Labels.{reads, ownerIn}
 use Rattle.book.specs.Stamps.{readStamp}
-use Rattle.labels.specs.Records.{refusalIn}
+use Rattle.labels.specs.Asked.{refusalIn}
 use Rattle.labels.proofs.Answered.{who-reads, who-refused, unread}
 use Rattle.labels.proofs.owners_of.Statement.{statement}
 use Rattle.labels.proofs.owners_of.Tie as tie
