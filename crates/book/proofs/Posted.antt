@@ -20,7 +20,7 @@ use Rattle.book.proofs.Bytes.{record-bytes}
 spot-record : (k c : ℕ) → c < 20 → (spot k c - 16) / 20 ≡ k
 spot-record k c l = omega arith
 
-spot-same : (k c i d : ℕ) → c < 20 → d < 20 → spot i d ≡ spot k c → (i ≡ k) × (d ≡ c)
+pub spot-same : (k c i d : ℕ) → c < 20 → d < 20 → spot i d ≡ spot k c → (i ≡ k) × (d ≡ c)
 spot-same k c i d lc ld e =
     let q : i ≡ k = sym (spot-record i d ld) ∙ ap (λ (n : ℕ). (n - 16) / 20) e ∙ spot-record k c lc in
     (q, omega arith)

@@ -1,18 +1,18 @@
 -- A fresh book, record by record, and what start answers and leaves.
 -- Assumes nothing.
-use Prim.Native.Nat.{ℕ, _+_, _<_, _≤_}
-use mathlib.Core.Path.{_≡_, refl, sym, ap, _∙_, subst}
+use Prim.Native.Nat.{ℕ, _+_, _%_, _<_, _≤_}
+use mathlib.Core.Path.{_≡_, refl, sym, ap, _∙_}
 use mathlib.Core.Bool.{Bool, true, false}
 use mathlib.Core.List.{List}
-use mathlib.Core.Logic.{⊎-elim}
 use native.Mathlib.Omega.{arith}
+use borrow.Author.Count.{below-more}
 use borrow.Author.Tests.{eq-eqb, ne-eqb}
-use lib.Dec.{ltb}
+use lib.Dec.{ltb, eqb}
 use lib.ListN.{length, set, replicate, length-set}
 use lib.Seq.{getD-set-same, getD-set-other}
 use Rattle.tools.specs.Tests.{pick}
 use Rattle.tools.specs.Lists.{byte, tab, Filled}
-use Rattle.tools.proofs.Tests.{and-true-l, lt-or-le}
+use Rattle.tools.proofs.Tests.{and-true-l}
 use Rattle.tools.proofs.Lists.{tab-at}
 use Rattle.rules.specs.declared.Setup.{Setup}
 use Rattle.rules.specs.Setups.{inRange, related, permits}
@@ -25,8 +25,8 @@ use Rattle.book.specs.Layout.{bookSize, records, shelfFrom, Record, spot, headB
 use Rattle.book.specs.Codec.{recordOf, write, encode}
 use Rattle.book.specs.Answers.{admits, answerTo, bookAfter}
 use Rattle.book.proofs.Bytes.{record-bytes, layout-is}
-use Rattle.book.proofs.Posted.{post-length, post-head, post-other, post-A, post-B, post-row}
-use Rattle.portal.specs.Fresh.{cleared, freed, freshRecord, Written}
+use Rattle.book.proofs.Posted.{spot-same}
+use Rattle.portal.specs.Fresh.{Written}
 
 pub zero-bytes : replicate 16 0 ≡ rowBytes zeros
 unfolding rowBytes rowByte tab
@@ -38,68 +38,75 @@ unfolding permits
 fits X h = ranged X (and-true-l (inRange X) (related X) h)
 
 -- a fresh record is its mark and zeros
-fresh-record : (k : ℕ) → recordOf fresh k ≡ freshRecord
+abbrev none : Record
+none = record { tagA = 0; tagB = 0; row = zeros }
+
+fresh-record : (k : ℕ) → recordOf fresh k ≡ none
 fresh-record k = go (ltb k 8) (ltb k shelfFrom)
   where
-    go : (t u : Bool) → pick t freshRecord (pick u freshRecord freshRecord) ≡ freshRecord
+    go : (t u : Bool) → pick t none (pick u none none) ≡ none
     go true u = refl
     go false true = refl
     go false false = refl
 
--- the header alone is written
+zero-byte : (c : ℕ) → rowByte zeros c ≡ 0
+unfolding rowByte
+zero-byte c = go (eqb (c % 2) 0)
+  where
+    go : (t : Bool) → _≡_ {A = ℕ} (pick t 0 0) 0
+    go true = refl
+    go false = refl
+
+-- the header is written before zeros
 pub written-head : (X : Setup) (b head : List ℕ) → head ≡ tab 0 headSize (headByte X) → Filled bookSize headSize (byte head) b
-    → Written X 0 b
-written-head X b head e h =
+    → ((t : ℕ) → headSize ≤ t → t < bookSize → byte b t ≡ 0) → Written X 0 b
+written-head X b head e h z =
     record {
       size = h .size;
       head = λ i l. sym (h .at i l ∙ ap (λ (x : List ℕ). byte x i) e ∙ tab-at headSize (headByte X) i l);
-      there = λ k c l m. absurd (omega arith);
+      marks = λ k l. absurd (omega arith);
+      rest = λ k c l m o. sym (z (spot k c) (omega arith) (omega arith));
     }
 
-module _ (b : List ℕ) (size : length b ≡ bookSize) (n : ℕ) (l : n < records) where
+-- the mark of one record more
+module _ (X : Setup) (n : ℕ) (b : List ℕ) (h : Written X n b) (l : n < records) where
+  abbrev half : List ℕ
+  half = set b (spot n 0) (mark0 n)
+
   abbrev marked : List ℕ
-  marked = set (cleared b n) (spot n 0) (mark0 n)
+  marked = set half (spot n 1) (mark1 n)
 
-  cleared-length : length (cleared b n) ≡ bookSize
-  cleared-length = post-length b size n 0 0 l zeros
+  past-mark : (i : ℕ) → (i ≡ spot n 0 → ⊥) → (i ≡ spot n 1 → ⊥) → byte b i ≡ byte marked i
+  past-mark i n0 n1 = sym (getD-set-other half (spot n 1) i (mark1 n) 0 n1 ∙ getD-set-other b (spot n 0) i (mark0 n) 0 n0)
 
-  marked-length : length marked ≡ bookSize
-  marked-length = length-set (cleared b n) (spot n 0) (mark0 n) ∙ cleared-length
+  here : (mark0 n ≡ byte marked (spot n 0)) × (mark1 n ≡ byte marked (spot n 1))
+  here = (
+    sym (getD-set-other half (spot n 1) (spot n 0) (mark1 n) 0 (omega arith)
+        ∙ getD-set-same b (spot n 0) (mark0 n) 0 (omega (arith, h .size))),
+    sym (getD-set-same half (spot n 1) (mark1 n) 0 (simp length-set (omega (arith, h .size)))),
+  )
 
-  pub freed-length : length (freed b n) ≡ bookSize
-  freed-length = length-set marked (spot n 1) (mark1 n) ∙ marked-length
+  there : (k : ℕ) → k < n → (mark0 k ≡ byte marked (spot k 0)) × (mark1 k ≡ byte marked (spot k 1))
+  there k m = (
+    h .marks k m .0 ∙ past-mark (spot k 0) (omega arith) (omega arith),
+    h .marks k m .1 ∙ past-mark (spot k 1) (omega arith) (omega arith),
+  )
 
-  -- a byte that is none of the mark
-  past-mark : (i : ℕ) → (i ≡ spot n 0 → ⊥) → (i ≡ spot n 1 → ⊥) → byte (cleared b n) i ≡ byte (freed b n) i
-  past-mark i n0 n1 =
-      sym (getD-set-other marked (spot n 1) i (mark1 n) 0 n1 ∙ getD-set-other (cleared b n) (spot n 0) i (mark0 n) 0 n0)
+  written-marked : Written X (n + 1) marked
+  written-marked =
+      record {
+        size = simp length-set (h .size);
+        head = λ i m. h .head i m ∙ past-mark i (omega arith) (omega arith);
+        marks = below-more _ n there here;
+        rest =
+            λ k c lk m o.
+            h .rest k c lk m o
+            ∙ past-mark (spot k c) (λ e. let q = spot-same n 0 k c (omega arith) o e .1 in omega arith)
+            (λ e. let q = spot-same n 1 k c (omega arith) o e .1 in omega arith);
+      }
 
-  freed-here : (c : ℕ) → c < 20 → recordByte n freshRecord c ≡ byte (freed b n) (spot n c)
-  freed-here =
-      record-bytes n freshRecord (λ c v. v ≡ byte (freed b n) (spot n c))
-      (sym (getD-set-same (cleared b n) (spot n 0) (mark0 n) 0 (omega (arith, cleared-length)))
-      ∙ sym (getD-set-other marked (spot n 1) (spot n 0) (mark1 n) 0 (omega arith)))
-      (sym (getD-set-same marked (spot n 1) (mark1 n) 0 (omega (arith, marked-length))))
-      (sym (post-A b size n 0 0 l zeros) ∙ past-mark (spot n tagASpot) (omega arith) (omega arith))
-      (sym (post-B b size n 0 0 l zeros) ∙ past-mark (spot n tagBSpot) (omega arith) (omega arith))
-      (λ c m. sym (post-row b size n 0 0 l zeros c m) ∙ past-mark (spot n (rowSpot + c)) (omega arith) (omega arith))
-
-pub written-more : (X : Setup) (n : ℕ) (b : List ℕ) → Written X n b → n < records → Written X (n + 1) (freed b n)
-written-more X n b h l =
-    record {
-      size = freed-length b (h .size) n l;
-      head =
-          λ i m. h .head i m ∙ sym (post-head b (h .size) n 0 0 l zeros i m)
-          ∙ past-mark b (h .size) n l i (omega arith) (omega arith);
-      there =
-          λ k c lk lc.
-          ⊎-elim (λ (m : k < n).
-          h .there k c m lc ∙ sym (post-other b (h .size) n 0 0 l zeros k c lc (λ e z. omega arith))
-          ∙ past-mark b (h .size) n l (spot k c) (omega arith) (omega arith))
-          (λ (m : n ≤ k).
-          let e : n ≡ k = omega arith in
-          subst (λ (i : ℕ). recordByte i freshRecord c ≡ byte (freed b n) (spot i c)) e (freed-here b (h .size) n l c lc)) (lt-or-le k n);
-    }
+  pub written-more : (i j x y : ℕ) → i ≡ spot n 0 → j ≡ spot n 1 → x ≡ mark0 n → y ≡ mark1 n → Written X (n + 1) (set (set b i x) j y)
+  written-more i j x y ei ej ex ey = rw (ei, ej, ex, ey) written-marked
 
 pub written-all : (X : Setup) (b : List ℕ) → Written X records b → b ≡ encode (freshBook X)
 written-all X b h =
@@ -107,7 +114,12 @@ written-all X b h =
     (record {
       size = h .size;
       head = h .head;
-      there = λ k c lk lc. ap (λ (r : Record). recordByte k r c) (fresh-record k) ∙ h .there k c lk lc;
+      there =
+          λ k c lk lc.
+          ap (λ (r : Record). recordByte k r c) (fresh-record k)
+          ∙ record-bytes k none (λ c v. v ≡ byte b (spot k c)) (h .marks k lk .0) (h .marks k lk .1)
+          (h .rest k tagASpot lk (omega arith) (omega arith)) (h .rest k tagBSpot lk (omega arith) (omega arith))
+          (λ c m. zero-byte c ∙ h .rest k (rowSpot + c) lk (omega arith) (omega arith)) c lc;
     }))
 
 -- start refuses a bad length, then a bad setup

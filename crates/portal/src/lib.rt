@@ -3,7 +3,7 @@ ghost use mathlib.Core.Path.{_≡_};
 ghost use mathlib.Core.Bool.{true};
 ghost use Prim.Native.Nat.{_<_, _≤_};
 ghost use lib.ListN.{length};
-ghost use Rattle.tools.specs.Lists.{byte, tab};
+ghost use Rattle.tools.specs.Lists.{byte, tab, Filled};
 ghost use Rattle.rules.specs.Setups.{permits};
 ghost use Rattle.rules.specs.Model;
 ghost use Rattle.rules.specs.Model.{refusal};
@@ -16,7 +16,7 @@ ghost use Rattle.book.specs.Layout.{bookSize, records, shelfFrom, seats, headSi
 ghost use Rattle.book.specs.Codec.{encode};
 ghost use Rattle.book.specs.Answers.{answerTo, bookAfter, partOf, targetAfter};
 ghost use Rattle.refusals.specs.First.{usedNumber};
-ghost use Rattle.portal.specs.Fresh.{cleared, freed, Written, Freshens, freeAfter};
+ghost use Rattle.portal.specs.Fresh.{cleared, Written, Marks, freeAfter};
 use rules::Compared;
 use rules::Kept;
 use rules::Posted;
@@ -106,8 +106,19 @@ fn head_of(s: Setup) -> [u8; 16]
     ]
 }
 
-fn write_head(book: &mut [u8], s: Setup)
+fn write_zeros(book: &mut [u8])
     requires { ⌜ length (now book) ≡ bookSize ⌝ }
+    ensures { λ _. ⌜ Filled bookSize bookSize (λ i. 0) (now (book .exit)) ⌝ }
+{
+    let mut i: usize = 0;
+    while i < parts::BOOK_BYTES {
+        book[i] = 0;
+        i += 1;
+    }
+}
+
+fn write_head(book: &mut [u8], s: Setup)
+    requires { ⌜ Filled bookSize bookSize (λ i. 0) (now book) ⌝ }
     requires { ⌜ permits s ≡ true ⌝ }
     ensures { λ _. ⌜ Written s 0 (now (book .exit)) ⌝ }
 {
@@ -119,38 +130,30 @@ fn write_head(book: &mut [u8], s: Setup)
     }
 }
 
-fn write_free(book: &mut [u8], k: usize)
-    requires { ⌜ length (now book) ≡ bookSize ⌝ }
-    requires { ⌜ k < records ⌝ }
-    ensures { λ _. ⌜ now (book .exit) ≡ freed (now (book .entry)) k ⌝ }
-{
-    clear(book, k);
-    book[parts::spot(k, 0)] = parts::first_mark(k);
-    book[parts::spot(k, 1)] = parts::second_mark(k);
-}
-
-fn write_records(book: &mut [u8], from: usize, to: usize)
+fn write_marks(book: &mut [u8], from: usize, to: usize)
     requires { ⌜ length (now book) ≡ bookSize ⌝ }
     requires { ⌜ (from ≤ to) × (to ≤ records) ⌝ }
-    ensures { λ _. ⌜ Freshens from to (now (book .entry)) (now (book .exit)) ⌝ }
+    ensures { λ _. ⌜ Marks from to (now (book .entry)) (now (book .exit)) ⌝ }
 {
     let mut k: usize = from;
     while k < to {
-        write_free(book, k);
+        book[parts::spot(k, 0)] = parts::first_mark(k);
+        book[parts::spot(k, 1)] = parts::second_mark(k);
         k += 1;
     }
 }
 
-// One kind of record after the other, so that the mark is a constant and no record asks which it has.
+// Zeros in one sweep, and the marks one kind of record after the other: so a mark is a constant, and no record asks which it has.
 fn write_fresh(book: &mut [u8], s: Setup)
     requires { ⌜ length (now book) ≡ bookSize ⌝ }
     requires { ⌜ permits s ≡ true ⌝ }
     ensures { λ _. ⌜ now (book .exit) ≡ encode (freshBook s) ⌝ }
 {
+    write_zeros(book);
     write_head(book, s);
-    write_records(book, 0, parts::MAIL);
-    write_records(book, parts::MAIL, parts::SHELF);
-    write_records(book, parts::SHELF, parts::RECORDS);
+    write_marks(book, 0, parts::MAIL);
+    write_marks(book, parts::MAIL, parts::SHELF);
+    write_marks(book, parts::SHELF, parts::RECORDS);
 }
 
 // Start writes a fresh book, whatever the bytes were: rows zero, no seat started, all places free.

@@ -11,12 +11,13 @@ returns c =
     let mail = shelf .before .before .before .before in
     let seats = mail .before .before .before .before in
     let head = seats .before .before .before .before in
-    let X = head .before .before .before .args .s in
+    let X = head .before .before .before .before .before .before .before .args .s in
     written-all X _
-    (shelf .write-records3 .ensures X (mail .write-records2 .ensures X (seats .write-records .ensures X (head .write-head .ensures))))
+    (shelf .write-marks3 .ensures X (mail .write-marks2 .ensures X (seats .write-marks .ensures X (head .write-head .ensures))))
 
 pub write-fresh-spec : {M : Type 1} → statement M
 write-fresh-spec =
     tie.close
     (tie.spec
-    (λ c κs. search needs) (λ c κs. search needs) (λ c κs. search needs) (λ c κs. search needs) (λ c. search needs) returns)
+    (λ c κs. search needs) (λ c κs. search needs) (λ c κs. search needs) (λ c κs. search needs) (λ c κs. search needs)
+    (λ c. search needs) returns)
