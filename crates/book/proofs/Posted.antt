@@ -47,7 +47,7 @@ module _ (b : List ℕ) (size : length b ≡ bookSize) (k x y : ℕ) (lk : k < r
   rowed-length : length rowed ≡ bookSize
   rowed-length = mid-length (spot k rowSpot) 16 b (rowBytes r) fits sized ∙ size
 
-  pub post-length : length (post b k x y (rowBytes r)) ≡ bookSize
+  post-length : length (post b k x y (rowBytes r)) ≡ bookSize
   unfolding post
   post-length = length-set (set rowed (spot k tagASpot) x) (spot k tagBSpot) y ∙ length-set rowed (spot k tagASpot) x ∙ rowed-length
 
@@ -57,32 +57,32 @@ module _ (b : List ℕ) (size : length b ≡ bookSize) (k x y : ℕ) (lk : k < r
   past-tags i n2 n3 =
       getD-set-other (set rowed (spot k tagASpot) x) (spot k tagBSpot) i y 0 n3 ∙ getD-set-other rowed (spot k tagASpot) i x 0 n2
 
-  pub post-head : (i : ℕ) → i < 16 → byte (post b k x y (rowBytes r)) i ≡ byte b i
+  post-head : (i : ℕ) → i < 16 → byte (post b k x y (rowBytes r)) i ≡ byte b i
   post-head i l =
       past-tags i (omega arith) (omega arith)
       ∙ mid-other (spot k rowSpot) 16 b (rowBytes r) fits sized i (λ p q. omega arith)
 
   -- every byte of another record, and the mark of this one
-  pub post-other : (i c : ℕ) → c < 20 → (i ≡ k → 2 ≤ c → ⊥) → byte (post b k x y (rowBytes r)) (spot i c) ≡ byte b (spot i c)
+  post-other : (i c : ℕ) → c < 20 → (i ≡ k → 2 ≤ c → ⊥) → byte (post b k x y (rowBytes r)) (spot i c) ≡ byte b (spot i c)
   post-other i c lc ne =
       past-tags (spot i c)
       (λ e. let s = spot-same k 2 i c (omega arith) lc e in ne (s .0) (let z = s .1 in omega arith))
       (λ e. let s = spot-same k 3 i c (omega arith) lc e in ne (s .0) (let z = s .1 in omega arith))
       ∙ mid-other (spot k rowSpot) 16 b (rowBytes r) fits sized (spot i c) (outside k i c lc (λ e l. ne e (omega arith)))
 
-  pub post-A : byte (post b k x y (rowBytes r)) (spot k tagASpot) ≡ x
+  post-A : byte (post b k x y (rowBytes r)) (spot k tagASpot) ≡ x
   unfolding post
   post-A =
       getD-set-other (set rowed (spot k tagASpot) x) (spot k tagBSpot) (spot k tagASpot) y 0 (omega arith)
       ∙ getD-set-same rowed (spot k tagASpot) x 0 (omega (arith, rowed-length))
 
-  pub post-B : byte (post b k x y (rowBytes r)) (spot k tagBSpot) ≡ y
+  post-B : byte (post b k x y (rowBytes r)) (spot k tagBSpot) ≡ y
   unfolding post
   post-B =
       getD-set-same (set rowed (spot k tagASpot) x) (spot k tagBSpot) y 0
       (let e = length-set rowed (spot k tagASpot) x ∙ rowed-length in omega arith)
 
-  pub post-row : (c : ℕ) → c < 16 → byte (post b k x y (rowBytes r)) (spot k (rowSpot + c)) ≡ rowByte r c
+  post-row : (c : ℕ) → c < 16 → byte (post b k x y (rowBytes r)) (spot k (rowSpot + c)) ≡ rowByte r c
   unfolding rowBytes
   post-row c l =
       let s : spot k (rowSpot + c) ≡ spot k rowSpot + c = omega arith in

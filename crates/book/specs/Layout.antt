@@ -1,12 +1,9 @@
 -- Where the numbers of a book stand: a header, then a record for each seat, each mail place and each shelf slot.
 -- Assumes nothing.
---   bookSize         how many bytes a book has
---   headSize         the header
---   recordSize       a record: its mark, its two tags and its row
---   rowSize          a row
+--   bookSize, headSize, recordSize, rowSize   how many bytes a book has, its header, a record and a row
 --   records          how many records there are
---   seats            the seats, records 0 to 7; a row has a pair for each
---   places           the mail places; there are as many shelf slots
+--   seats            how many seats, whose records come first; a row has a pair for each
+--   places           how many mail places, and how many shelf slots
 --   mailFrom         the record of mail place 0
 --   shelfFrom        the record of shelf slot 0
 --   tagASpot, tagBSpot   which byte of a record is its first tag, and which its second: a mail place's addressee, filler elsewhere

@@ -33,6 +33,7 @@ use Rattle.rules.specs.Numbers.{NoRoom, number}
 use Rattle.rules.specs.Model.{Value, Answer, refusal}
 use Rattle.rules.specs.Calls.{Call}
 use Rattle.rules.specs.Labels.{Which, First, Second, Neither, newer}
+use Rattle.book.specs.Layout.{recordSize, rowSize}
 use Rattle.book.specs.Codec.{decode}
 use Rattle.book.specs.Stamps.{filled}
 use Rattle.book.specs.Answers.{answerTo, bookAfter, partIn, recordIn}
@@ -74,10 +75,10 @@ abbrev pub whichTo : List ℕ → List ℕ → Lent
 whichTo = lent 1 whichIn
 
 abbrev pub rowTo : List ℕ → List ℕ → Lent
-rowTo = lent 16 partIn
+rowTo = lent rowSize partIn
 
 abbrev pub recordTo : ℕ → List ℕ → List ℕ → Lent
-recordTo D = lent 20 (recordIn D)
+recordTo D = lent recordSize (recordIn D)
 
 abbrev pub stampTo : List ℕ → List ℕ → List ℕ → Lent
 stampTo s = recordTo (decode s .setup .desks)

@@ -6,6 +6,7 @@ ghost use Prim.Native.Nat.{_≤_};
 ghost use lib.ListN.{length};
 ghost use Rattle.rules.specs.Model.{slot, refusal, accepted};
 ghost use Rattle.rules.specs.Labels.{newer};
+ghost use Rattle.book.specs.Layout.{recordSize};
 ghost use Rattle.rules.specs.Replies.{stampedSays, postedSays, keptSays, toldSays, comparedSays};
 ghost use Rattle.door.specs.Door.{setupBy, relationByte, whichByte, byteTo, whichTo, recordTo, cramped, Gives};
 use rules::Compared;
@@ -103,7 +104,7 @@ pub fn give_slot(target: &mut [u8], kept: Kept) -> u8
 
 // The stamp of an accepted event as a record.
 pub fn give_stamp(target: &mut [u8], desks: u8, stamped: Stamped) -> u8
-    requires { ⌜ 20 ≤ length (now target) ⌝ }
+    requires { ⌜ recordSize ≤ length (now target) ⌝ }
     ensures { λ r. ⌜ Gives (stampedSays stamped) (recordTo desks (now (target .entry)) (now (target .exit)) ∷ []) r ⌝ }
 {
     if stamped.number != rules::DONE {
@@ -117,7 +118,7 @@ pub fn give_stamp(target: &mut [u8], desks: u8, stamped: Stamped) -> u8
 
 // The stamp of an accepted send as a record, and its place.
 pub fn give_sent(stamp: &mut [u8], place: &mut [u8], desks: u8, sent: Sent) -> u8
-    requires { ⌜ (20 ≤ length (now stamp)) × (1 ≤ length (now place)) ⌝ }
+    requires { ⌜ (recordSize ≤ length (now stamp)) × (1 ≤ length (now place)) ⌝ }
     ensures { λ r. ⌜ Gives (postedSays (sent .place) (sent .stamp))
         (recordTo desks (now (stamp .entry)) (now (stamp .exit)) ∷ byteTo (now (place .entry)) (now (place .exit)) ∷ []) r ⌝ }
 {

@@ -57,7 +57,7 @@ zero-byte c = go (eqb (c % 2) 0)
     go true = refl
     go false = refl
 
--- the header is written before zeros
+-- the header, and zeros behind it
 pub written-head : (X : Setup) (b head : List ℕ) → head ≡ tab 0 headSize (headByte X) → Filled bookSize headSize (byte head) b
     → ((t : ℕ) → headSize ≤ t → t < bookSize → byte b t ≡ 0) → Written X 0 b
 written-head X b head e h z =

@@ -106,6 +106,7 @@ fn head_of(s: Setup) -> [u8; 16]
     ]
 }
 
+// A loop that does nothing else: the compiler makes one fill of it.
 fn write_zeros(book: &mut [u8])
     requires { ⌜ length (now book) ≡ bookSize ⌝ }
     ensures { λ _. ⌜ Filled bookSize bookSize (λ i. 0) (now (book .exit)) ⌝ }
