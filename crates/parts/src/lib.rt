@@ -44,6 +44,26 @@ pub const BOOK_MARK0: u8 = 0x42;
 
 pub const BOOK_MARK1: u8 = 0x4B;
 
+// Behind it the setup numbers, a byte each.
+pub const DESKS_AT: usize = 2;
+
+pub const PHASES_AT: usize = 3;
+
+pub const CLOCKS_AT: usize = 4;
+
+const SEAT_LAG_AT: usize = 5;
+
+const SHELF_LAG_AT: usize = 6;
+
+const BACK_AT: usize = 7;
+
+const AHEAD_AT: usize = 8;
+
+// The filler of the header, to its end.
+pub const SPARE_AT: usize = 9;
+
+pub const SPARE_BYTES: usize = HEAD_BYTES - SPARE_AT;
+
 // The first tag of a seat that has started.
 pub const STARTED: u8 = 1;
 
@@ -82,13 +102,13 @@ pub fn setup_of(book: &[u8]) -> Setup
     ensures { λ r. ⌜ r ≡ setupOf (now (book .entry)) ⌝ }
 {
     Setup {
-        desks: tools::wide(book[2]),
-        phases: tools::wide(book[3]),
-        clocks: tools::wide(book[4]),
-        seatLag: tools::wide(book[5]),
-        shelfLag: tools::wide(book[6]),
-        back: tools::wide(book[7]),
-        ahead: tools::wide(book[8]),
+        desks: tools::wide(book[DESKS_AT]),
+        phases: tools::wide(book[PHASES_AT]),
+        clocks: tools::wide(book[CLOCKS_AT]),
+        seatLag: tools::wide(book[SEAT_LAG_AT]),
+        shelfLag: tools::wide(book[SHELF_LAG_AT]),
+        back: tools::wide(book[BACK_AT]),
+        ahead: tools::wide(book[AHEAD_AT]),
     }
 }
 
@@ -96,35 +116,35 @@ pub fn desks_of(book: &[u8]) -> usize
     requires { ⌜ length (now book) ≡ bookSize ⌝ }
     ensures { λ r. ⌜ r ≡ setupOf (now (book .entry)) .desks ⌝ }
 {
-    tools::wide(book[2])
+    tools::wide(book[DESKS_AT])
 }
 
 pub fn phases_of(book: &[u8]) -> u8
     requires { ⌜ length (now book) ≡ bookSize ⌝ }
     ensures { λ r. ⌜ r ≡ setupOf (now (book .entry)) .phases ⌝ }
 {
-    book[3]
+    book[PHASES_AT]
 }
 
 pub fn seat_lag_of(book: &[u8]) -> u8
     requires { ⌜ length (now book) ≡ bookSize ⌝ }
     ensures { λ r. ⌜ r ≡ setupOf (now (book .entry)) .seatLag ⌝ }
 {
-    book[5]
+    book[SEAT_LAG_AT]
 }
 
 pub fn shelf_lag_of(book: &[u8]) -> usize
     requires { ⌜ length (now book) ≡ bookSize ⌝ }
     ensures { λ r. ⌜ r ≡ setupOf (now (book .entry)) .shelfLag ⌝ }
 {
-    tools::wide(book[6])
+    tools::wide(book[SHELF_LAG_AT])
 }
 
 pub fn clocks_of(book: &[u8]) -> usize
     requires { ⌜ length (now book) ≡ bookSize ⌝ }
     ensures { λ r. ⌜ r ≡ setupOf (now (book .entry)) .clocks ⌝ }
 {
-    tools::wide(book[4])
+    tools::wide(book[CLOCKS_AT])
 }
 
 pub fn byte_at(book: &[u8], k: usize, c: usize) -> u8

@@ -30,10 +30,10 @@ use rules::Told;
 pub fn desks_in(book: &[u8]) -> u8
     ensures { λ r. ⌜ r ≡ byte (now (book .entry)) 2 ⌝ }
 {
-    if book.len() <= 2 {
+    if book.len() <= parts::DESKS_AT {
         return 0;
     }
-    book[2]
+    book[parts::DESKS_AT]
 }
 
 fn no_stamp() -> Stamp

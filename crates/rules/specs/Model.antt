@@ -19,7 +19,7 @@
 --   zeros, idle, fresh        a row of zeros, a seat not started, the tables of a fresh book
 --   own b k          desk k's pair in its own seat; phases b k, its phase
 --   limit X k        the clock values of desk k: 0 up to it, it left out
---   freeMail b       the lowest free mail place, places where there is none; freeSlot likewise
+--   freeMail b       the lowest free mail place, or their number where none is free; freeSlot likewise
 --   tick, turn       a pair after local, send or receive; after a reset
 --   grown, merged, turned   a desk's row after local and send; after receive; after reset
 --   near X d         d where it is within reach

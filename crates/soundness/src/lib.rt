@@ -39,9 +39,9 @@ fn limits_of(book: &[u8]) -> [u8; 24]
     let mut limits = [0u8; 24];
     let mut j: usize = 0;
     while j < parts::SEATS {
-        limits[PHASES + j] = count_of(d, book[3], j);
+        limits[PHASES + j] = count_of(d, book[parts::PHASES_AT], j);
         limits[OWN + j] = parts::phase_at(book, j, j);
-        limits[CLOCKS + j] = count_of(d, book[4], j);
+        limits[CLOCKS + j] = count_of(d, book[parts::CLOCKS_AT], j);
         j += 1;
     }
     limits
@@ -246,8 +246,8 @@ fn spare_zero(book: &[u8]) -> bool
 {
     let mut ok = true;
     let mut i: usize = 0;
-    while i < 7 {
-        ok = ok & (book[9 + i] == 0);
+    while i < parts::SPARE_BYTES {
+        ok = ok & (book[parts::SPARE_AT + i] == 0);
         i += 1;
     }
     ok
