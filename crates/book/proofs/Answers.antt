@@ -7,6 +7,7 @@ use mathlib.Core.List.{List}
 use mathlib.Core.Logic.{_⊎_, inl, inr}
 use native.Mathlib.Omega.{arith}
 use Rattle.tools.specs.Tests.{pick}
+use Rattle.tools.specs.Reasons.{ifDone}
 use Rattle.rules.specs.declared.Setup.{Setup}
 use Rattle.rules.specs.Setups.{permits}
 use Rattle.rules.specs.Model.{Act, fresh, Answer, refusal}
@@ -18,7 +19,7 @@ use Rattle.rules.proofs.Steps.{step-refused}
 use Rattle.book.specs.Layout.{fields, setupOf}
 use Rattle.book.specs.Sound.{sound}
 use Rattle.book.specs.Codec.{read, write, decode, encode}
-use Rattle.book.specs.Answers.{admits, turnOn, answerTo, leaves, bookAfter}
+use Rattle.book.specs.Answers.{admits, turnOn, answerTo, bookAfter}
 use Rattle.book.proofs.Bytes.{layout-holds}
 use Rattle.book.proofs.Soundness.{sound-setup, sound-fits}
 use Rattle.book.proofs.Codec.{decode-encode}
@@ -33,7 +34,7 @@ pub refused : (s : List ℕ) (c : Call) → (answerTo s c .number ≡ 0 → ⊥)
 unfolding bookAfter
 refused s c ne = go (answerTo s c .number) ne
   where
-    go : (n : ℕ) → (n ≡ 0 → ⊥) → leaves n s (encode (turnOn s c .book)) ≡ s
+    go : (n : ℕ) → (n ≡ 0 → ⊥) → ifDone n (encode (turnOn s c .book)) s ≡ s
     go zero h = absurd (h refl)
     go (suc n) h = refl
 
@@ -93,10 +94,10 @@ turn-same s (on c) n =
 pub after-decode : (s : List ℕ) (c : Call) → admits s c ≡ true → decode (bookAfter s c) ≡ turnOn s c .book
 unfolding bookAfter
 after-decode s c a =
-    ap (λ (d : Answer). decode (leaves (d .number) s (encode (turnOn s c .book)))) (answer-is s c a)
+    ap (λ (d : Answer). decode (ifDone (d .number) (encode (turnOn s c .book)) s)) (answer-is s c a)
     ∙ go (turnOn s c .answer .number) refl
   where
-    go : (n : ℕ) → turnOn s c .answer .number ≡ n → decode (leaves n s (encode (turnOn s c .book))) ≡ turnOn s c .book
+    go : (n : ℕ) → turnOn s c .answer .number ≡ n → decode (ifDone n (encode (turnOn s c .book)) s) ≡ turnOn s c .book
     go zero e = whole-decode (turnOn s c .book) (turn-whole s c a e)
     go (suc n) e = sym (turn-same s c (λ z. omega arith))
 
@@ -105,11 +106,11 @@ pub after-sound : (s : List ℕ) (c : Call) → admits s c ≡ true → (turnOn 
     → sound (bookAfter s c) ≡ true
 unfolding bookAfter
 after-sound s c a h =
-    ap (λ (d : Answer). sound (leaves (d .number) s (encode (turnOn s c .book)))) (answer-is s c a)
+    ap (λ (d : Answer). sound (ifDone (d .number) (encode (turnOn s c .book)) s)) (answer-is s c a)
     ∙ go (turnOn s c .answer .number) refl h
   where
     go : (n : ℕ) → turnOn s c .answer .number ≡ n → (turnOn s c .answer .number ≡ 0) ⊎ (sound s ≡ true)
-        → sound (leaves n s (encode (turnOn s c .book))) ≡ true
+        → sound (ifDone n (encode (turnOn s c .book)) s) ≡ true
     go zero e q = whole-sound (turnOn s c .book) (turn-whole s c a e)
     go (suc n) e (inl q) = absurd (omega arith)
     go (suc n) e (inr q) = q

@@ -9,13 +9,14 @@
 --   partOf s k     what show of slot k hands back of the bytes s
 --   targetAfter s k t   what write of slot k makes of the target t
 --   beforeOf X a b, compareOf X a b   the answers to before and compare off the book, of the records a and b under the setup X
-use Prim.Native.Nat.{ℕ, zero, suc}
+use Prim.Native.Nat.{ℕ}
 use mathlib.Core.Bool.{Bool}
 use mathlib.Core.List.{List}
 use lib.Dec.{eqb}
 use lib.ListN.{length}
 use Rattle.tools.specs.Tests.{pick}
 use Rattle.tools.specs.Lists.{listed}
+use Rattle.tools.specs.Reasons.{ifDone}
 use Rattle.rules.specs.Model.{show, write, Value, Answer, refusal}
 use Rattle.rules.specs.declared.Setup.{Setup}
 use Rattle.rules.specs.Numbers.{BadBook, number}
@@ -37,12 +38,8 @@ turnOn s c = call ringOf (decode s) c
 unfoldable pub answerTo : List ℕ → Call → Answer
 answerTo s c = pick (admits s c) (turnOn s c .answer) (refusal (number BadBook))
 
-abbrev pub leaves : ℕ → List ℕ → List ℕ → List ℕ
-leaves zero s new = new
-leaves (suc n) s new = s
-
 unfoldable pub bookAfter : List ℕ → Call → List ℕ
-bookAfter s c = leaves (answerTo s c .number) s (encode (turnOn s c .book))
+bookAfter s c = ifDone (answerTo s c .number) (encode (turnOn s c .book)) s
 
 abbrev pub partIn : Value → List ℕ
 partIn v = listed rowBytes (v .row)

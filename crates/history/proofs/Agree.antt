@@ -19,7 +19,7 @@ use Rattle.rules.specs.Labels.{beforeOff, compareOff}
 use Rattle.history.specs.Round.{roundBook}
 use Rattle.history.specs.History.{Log, Leads, State, begin, after, setupAfter}
 use Rattle.history.specs.Runs.{left}
-use Rattle.history.specs.Stamps.{labelOf}
+use Rattle.history.specs.Stamps.{labelHeld}
 use Rattle.history.specs.Demand.{InReach, Stands, BeforeSaid, BeforeIs, CompareSaid, CompareIs}
 use Rattle.history.proofs.Causal.{Causal, leads-lt}
 use Rattle.history.proofs.Runs.{Faithful, faithful-run}
@@ -98,34 +98,34 @@ module _ (s : State) (w : Faithful s) (i j : ℕ) (e f : Held)
   y = s .history .kept j
 
   pub state-agree-before : call ringOf (roundBook (s .book)) (on (before i j)) .answer .number ≡ 0
-      → beforeOff X (some (labelOf e)) (some (labelOf f)) ≡ call ringOf (roundBook (s .book)) (on (before i j)) .answer
+      → beforeOff X (some (labelHeld e)) (some (labelHeld f)) ≡ call ringOf (roundBook (s .book)) (on (before i j)) .answer
   state-agree-before z = go (in-reach? X h x y)
     where
       told : BeforeIs X h x y (call ringOf (roundBook (s .book)) (on (before i j)) .answer)
       told = state-before s w i j (ap used pe) (ap used pf)
 
       go : Dec (InReach X h x y)
-          → beforeOff X (some (labelOf e)) (some (labelOf f)) ≡ call ringOf (roundBook (s .book)) (on (before i j)) .answer
+          → beforeOff X (some (labelHeld e)) (some (labelHeld f)) ≡ call ringOf (roundBook (s .book)) (on (before i j)) .answer
       go (no n) = absurd (let y = told .out .1 n in omega arith)
       go (yes r) =
           one-before h x y _ _
-          (state-off-before s w x y (labelOf e) (labelOf f) (slot-stamp s w i e pe) (slot-stamp s w j f pf) r) (told .said r)
+          (state-off-before s w x y (labelHeld e) (labelHeld f) (slot-stamp s w i e pe) (slot-stamp s w j f pf) r) (told .said r)
 
   pub state-agree-compare : call ringOf (roundBook (s .book)) (on (compare i j)) .answer .number ≡ 0
-      → compareOff X (some (labelOf e)) (some (labelOf f)) ≡ call ringOf (roundBook (s .book)) (on (compare i j)) .answer
+      → compareOff X (some (labelHeld e)) (some (labelHeld f)) ≡ call ringOf (roundBook (s .book)) (on (compare i j)) .answer
   state-agree-compare z = go (both-dec (in-reach? X h x y) (in-reach? X h y x))
     where
       told : CompareIs X h x y (call ringOf (roundBook (s .book)) (on (compare i j)) .answer)
       told = state-compare s w i j (ap used pe) (ap used pf)
 
       go : Dec (InReach X h x y × InReach X h y x)
-          → compareOff X (some (labelOf e)) (some (labelOf f)) ≡ call ringOf (roundBook (s .book)) (on (compare i j)) .answer
+          → compareOff X (some (labelHeld e)) (some (labelHeld f)) ≡ call ringOf (roundBook (s .book)) (on (compare i j)) .answer
       go (no n) = absurd (let y = told .out .1 n in omega arith)
       go (yes (r, r′)) =
           let oe = slot-stamp s w i e pe in
           let of = slot-stamp s w j f pf in
           one-compare X h (w .good .causal) x y (oe .is) (of .is) _ _
-          (state-off-compare s w x y (labelOf e) (labelOf f) oe of r r′) (told .said r r′)
+          (state-off-compare s w x y (labelHeld e) (labelHeld f) oe of r r′) (told .said r r′)
 
 -- after any calls from a fresh book on
 module _ (X : Setup) (fair : permits X ≡ true) (cs : List Call) (i j : ℕ) (e f : Held)
@@ -135,13 +135,13 @@ module _ (X : Setup) (fair : permits X ≡ true) (cs : List Call) (i j : ℕ) (e
   slot-is k m p = ap (λ (b : Book). b .tables .shelf k) (sym (ring-book X fair cs)) ∙ p
 
   pub agree-before : call ringOf (left ringOf (freshBook X) cs) (on (before i j)) .answer .number ≡ 0
-      → beforeOff (setupAfter X cs) (some (labelOf e)) (some (labelOf f))
+      → beforeOff (setupAfter X cs) (some (labelHeld e)) (some (labelHeld f))
       ≡ call ringOf (left ringOf (freshBook X) cs) (on (before i j)) .answer
   agree-before =
       rw (ring-book X fair cs) (state-agree-before _ (faithful-run X fair cs) i j e f (slot-is i e pe) (slot-is j f pf))
 
   pub agree-compare : call ringOf (left ringOf (freshBook X) cs) (on (compare i j)) .answer .number ≡ 0
-      → compareOff (setupAfter X cs) (some (labelOf e)) (some (labelOf f))
+      → compareOff (setupAfter X cs) (some (labelHeld e)) (some (labelHeld f))
       ≡ call ringOf (left ringOf (freshBook X) cs) (on (compare i j)) .answer
   agree-compare =
       rw (ring-book X fair cs) (state-agree-compare _ (faithful-run X fair cs) i j e f (slot-is i e pe) (slot-is j f pf))

@@ -13,13 +13,13 @@ use Rattle.ring.specs.Phases.{line, Pair, isLater, later}
 use Rattle.rules.proofs.Setups.{Permitted}
 use Rattle.rules.specs.declared.Setup.{Setup}
 use Rattle.tools.specs.Tests.{pick}
-use Rattle.tools.specs.Tables.{put}
+use Rattle.tools.specs.Reasons.{ifDone}
+use Rattle.tools.specs.Tables.{put, Each}
 use Rattle.rules.specs.Model.{Row, Seat, Held, Tables, Act, local, reset, keep, drop, discard, send, receive, ask}
 use Rattle.rules.specs.Model.{step, done, why, fresh, zeros, grown, merged, turned, seated, freeMail, freeSlot, rowIn, used}
 use Rattle.rules.specs.Model.{own, tick, turn, settle}
 use Rattle.history.specs.History.{Kind, cause, Local, Send, Reset, Receive, Log, History, desk-link, one, more, logged, noted, none-yet}
-use Rattle.history.specs.History.{adds, kept-if}
-use Rattle.tools.specs.Tables.{Each}
+use Rattle.history.specs.History.{adds}
 use Rattle.tools.proofs.Tables.{put-all, put-both, put-same, put-other, Each-map, none-some}
 use Rattle.history.proofs.Keys.{key, later-key, tick-key, turn-key}
 use Rattle.rules.specs.Model.{phases}
@@ -344,11 +344,11 @@ module _ (X : Setup) (ok : Permitted X) (b : Tables) (h : History) (g : Good X b
   good-done (ask q) e bd = g
 
 pub good-next : (X : Setup) → Permitted X → (b : Tables) (h : History) → Good X b h → (c : Act)
-    → Good X ((step line X b c) .tables) (kept-if (why line X b c) h (adds h b c))
+    → Good X ((step line X b c) .tables) (ifDone (why line X b c) (adds h b c) h)
 unfolding step
 good-next X ok b h g c = go (why line X b c) refl
   where
-    go : (n : ℕ) → why line X b c ≡ n → Good X ((settle n b (done line X b c)) .tables) (kept-if n h (adds h b c))
+    go : (n : ℕ) → why line X b c ≡ n → Good X ((settle n b (done line X b c)) .tables) (ifDone n (adds h b c) h)
     go zero e = good-done X ok b h g c e (bounded-done X ok b (g .bounded) c e)
     go (suc n) e = g
 

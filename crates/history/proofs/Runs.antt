@@ -5,12 +5,13 @@ use mathlib.Core.Bool.{Bool, true, false, not}
 use mathlib.Core.List.{List, [], _∷_, _++_}
 use native.Mathlib.Omega.{arith}
 use Rattle.tools.specs.Tests.{pick}
+use Rattle.tools.specs.Reasons.{ifDone}
 use Rattle.ring.specs.Phases.{Phases}
 use Rattle.rules.specs.declared.Setup.{Setup}
 use Rattle.rules.specs.Setups.{permits}
 use Rattle.rules.specs.Model.{nothing, accepted}
 use Rattle.rules.specs.Calls.{Book, Call, start, on, Turn, freshBook, settled, lineOf, call}
-use Rattle.history.specs.History.{State, none-yet, kept-if, begin, next, after}
+use Rattle.history.specs.History.{State, none-yet, begin, next, after}
 use Rattle.history.specs.Runs.{left}
 use Rattle.rules.proofs.Setups.{Permitted, permitted}
 use Rattle.rules.proofs.Steps.{step-number}
@@ -37,7 +38,7 @@ faithful-next s w (start X) = go (permits X) refl
   where
     go : (t : Bool) → permits X ≡ t
         → let r = startTurn (s .book) X t in
-        Faithful (record { book = r .book; history = kept-if (r .answer .number) (s .history) none-yet })
+        Faithful (record { book = r .book; history = ifDone (r .answer .number) none-yet (s .history) })
     go true e = faithful-begin X e
     go false e = w
 faithful-next s w (on c) =

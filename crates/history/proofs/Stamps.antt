@@ -7,6 +7,7 @@ use mathlib.Core.List.{List, [], _∷_}
 use Prim.Native.Nat.{ℕ, zero, suc, _≤_, _<_}
 use native.Mathlib.Omega.{arith}
 use Rattle.tools.specs.Tables.{Each}
+use Rattle.tools.specs.Reasons.{ifDone}
 use Rattle.tools.proofs.Tables.{put-same, put-other, some-is, none-some}
 use Rattle.ring.specs.Phases.{line}
 use Rattle.rules.specs.declared.Setup.{Setup}
@@ -15,8 +16,8 @@ use Rattle.rules.specs.Model.{Row, Held, Label, Question, slotAsked, Act, local
 use Rattle.rules.specs.Model.{Value, Answer, byIn, rowIn, used, why, askTells, done, step, settle}
 use Rattle.rules.specs.Calls.{Book, Call, start, on, call}
 use Rattle.history.specs.Round.{modulo, mapHeld, mapStamp, mapShown, mapValue, roundRow, roundBook}
-use Rattle.history.specs.History.{Kind, Log, History, State, logged, adds, kept-if, none-yet, begin, next, after, logAfter, setupAfter}
-use Rattle.history.specs.Stamps.{labelOf, StampOf, ownerAt, orShown, stampIn, stampGiven, eventAt, eventOf, Ongoing, Answered}
+use Rattle.history.specs.History.{Kind, Log, History, State, logged, adds, none-yet, begin, next, after, logAfter, setupAfter}
+use Rattle.history.specs.Stamps.{labelHeld, StampOf, ownerAt, orShown, stampIn, stampGiven, eventAt, eventOf, Ongoing, Answered}
 use Rattle.rules.proofs.Steps.{step-number}
 use Rattle.rules.proofs.Accepted.{no-ask, Hands, no-stamp, row-of, stamp-of, hands}
 use Rattle.history.proofs.Good.{Behind}
@@ -62,15 +63,15 @@ module _ (s : State) where
   adds-on (discard p) = same-log (s .history .log)
   adds-on (ask q) = same-log (s .history .log)
 
-  next-history : (c : Act) → next s (on c) .history ≡ kept-if (why line (now s) (s .book .tables) c) (s .history) (added s c)
+  next-history : (c : Act) → next s (on c) .history ≡ ifDone (why line (now s) (s .book .tables) c) (added s c) (s .history)
   unfolding next call
   next-history c =
-      ap (λ n. kept-if n (s .history) (added s c)) (step-number line (now s) (s .book .tables) c)
+      ap (λ n. ifDone n (added s c) (s .history)) (step-number line (now s) (s .book .tables) c)
 
   next-on : (c : Act) → Onward (s .history .log) (next s (on c) .history .log)
   next-on c = rw (next-history c) (go (why line (now s) (s .book .tables) c))
     where
-      go : (n : ℕ) → Onward (s .history .log) (kept-if n (s .history) (added s c) .log)
+      go : (n : ℕ) → Onward (s .history .log) (ifDone n (added s c) (s .history) .log)
       go zero = adds-on c
       go (suc n) = same-log (s .history .log)
 
@@ -85,7 +86,7 @@ module _ (s : State) where
     where
       go : (t : Bool) → t ≡ false
           → let r = startTurn (s .book) X t in
-          _≡_ {A = State} (record { book = r .book; history = kept-if (r .answer .number) (s .history) none-yet }) s
+          _≡_ {A = State} (record { book = r .book; history = ifDone (r .answer .number) none-yet (s .history) }) s
       go true e = absurd (false≢true (sym e))
       go false e = refl
 
@@ -139,14 +140,14 @@ by-round P (some m) = refl
 
 module _ (s : State) (w : Faithful s) where
   -- THE PROMISE: the stamp of a used slot of the ring's book is that of the event behind the slot
-  pub slot-stamp : (i : ℕ) (m : Held) → roundBook (s .book) .tables .shelf i ≡ some m → StampIn s (s .history .kept i) (labelOf m)
+  pub slot-stamp : (i : ℕ) (m : Held) → roundBook (s .book) .tables .shelf i ≡ some m → StampIn s (s .history .kept i) (labelHeld m)
   slot-stamp i m p = go (s .book .tables .shelf i) (w .good .shelf i) p
     where
       go : (o : Option Held) → Each (Behind (s .history .log) (s .history .kept i)) o → mapHeld (modulo (now s .phases)) o ≡ some m
-          → StampIn s (s .history .kept i) (labelOf m)
+          → StampIn s (s .history .kept i) (labelHeld m)
       go none n q = absurd (none-some q)
       go (some v) n q =
-          subst (λ (m : Held). StampIn s (s .history .kept i) (labelOf m)) (some-is q)
+          subst (λ (m : Held). StampIn s (s .history .kept i) (labelHeld m)) (some-is q)
           (held-stamp (now s) (s .history .log) _ (some v) refl n)
 
   abbrev slot-now : ℕ → Option Held
@@ -203,13 +204,13 @@ module _ (s : State) (w : Faithful s) where
 
   step-stamp : (c : Act) (e : Label)
       → roundStamp s c (step line (now s) (s .book .tables) c .answer .value) ≡ some e
-      → StampOf (now s) (kept-if (why line (now s) (s .book .tables) c) (s .history) (added s c) .log) (eventOf (s .history) c) e
+      → StampOf (now s) (ifDone (why line (now s) (s .book .tables) c) (added s c) (s .history) .log) (eventOf (s .history) c) e
   unfolding step
   step-stamp c e = go (why line (now s) (s .book .tables) c) refl
     where
       go : (n : ℕ) → why line (now s) (s .book .tables) c ≡ n
           → roundStamp s c (settle n (s .book .tables) (done line (now s) (s .book .tables) c) .answer .value) ≡ some e
-          → StampOf (now s) (kept-if n (s .history) (added s c) .log) (eventOf (s .history) c) e
+          → StampOf (now s) (ifDone n (added s c) (s .history) .log) (eventOf (s .history) c) e
       go zero z q = done-stamp c z e q
       go (suc n) z q = absurd (none-some q)
 

@@ -9,17 +9,17 @@
 --   logged h j w r the log with one more event: at desk j, of kind w, which leaves row r
 --   noted          the history with that event, and the mail's events as given
 --   adds h b c     the history after an accepted act
---   kept-if n h h′ h′ where the number n is 0, else h: a refused call leaves the history as it was
 --   State          a book of the line with its history
 --   begin X        the state after a start with the setup X
 --   history-of s c what an accepted call makes of the history
---   next s c       the state after a call; after s cs, after a list of calls
+--   next s c       the state after a call, its history as it was where the call is refused; after s cs, after a list of calls
 --   logAfter X cs  the log of the calls cs, from a fresh book of X on; setupAfter X cs, the setup then
 use mathlib.Core.Path.{_≡_}
 use mathlib.Core.Option.{Option, none, some}
 use mathlib.Core.List.{List, [], _∷_}
-use Prim.Native.Nat.{ℕ, zero, suc, _<_}
+use Prim.Native.Nat.{ℕ, suc, _<_}
 use Rattle.tools.specs.Tables.{put}
+use Rattle.tools.specs.Reasons.{ifDone}
 use Rattle.ring.specs.Phases.{line}
 use Rattle.rules.specs.declared.Setup.{Setup}
 use Rattle.rules.specs.Model.{
@@ -109,11 +109,6 @@ adds h b (drop s) = h
 adds h b (discard p) = h
 adds h b (ask q) = h
 
--- a refused call leaves the history as it was
-abbrev pub kept-if : ℕ → History → History → History
-kept-if zero h h′ = h′
-kept-if (suc n) h h′ = h
-
 pub record State : Type 0 where
   pub book : Book
   pub history : History
@@ -129,7 +124,7 @@ history-of s (on c) = adds (s .history) (s .book .tables) c
 unfoldable pub next : State → Call → State
 next s c =
     let t = call lineOf (s .book) c in
-    record { book = t .book; history = kept-if (t .answer .number) (s .history) (history-of s c) }
+    record { book = t .book; history = ifDone (t .answer .number) (history-of s c) (s .history) }
 
 unfoldable pub after : State → List Call → State
 after s [] = s

@@ -1,6 +1,6 @@
 -- Stamps that a run has answered, and the event of each.
 -- Assumes nothing.
---   labelOf w          the stamp that a used slot holds: its owner and its row
+--   labelHeld w        the stamp that a used slot holds: its owner and its row
 --   StampOf X h x e    e is the stamp of the event x, its phases come round
 --   ownerAt b o        the owner of the stamp in the slot o, which a question asks of
 --   orShown o e r      the stamp e, or where there is none the row r with the owner o
@@ -23,8 +23,8 @@ use Rattle.history.specs.Round.{roundRow}
 use Rattle.history.specs.History.{Log, History, begin, after}
 use Rattle.history.specs.Runs.{left}
 
-abbrev pub labelOf : Held → Label
-labelOf w = record { owner = w .by; row = w .row }
+abbrev pub labelHeld : Held → Label
+labelHeld w = record { owner = w .by; row = w .row }
 
 pub record StampOf (X : Setup) (h : Log) (x : ℕ) (e : Label) : Type 0 where
   pub is : x < h .count

@@ -9,6 +9,7 @@ use native.Mathlib.Omega.{arith}
 use borrow.Author.Tests.{ne-eqb}
 use Rattle.tools.specs.Tables.{put}
 use Rattle.tools.specs.Lists.{byte}
+use Rattle.tools.specs.Reasons.{ifDone}
 use Rattle.tools.proofs.Tests.{not-off}
 use Rattle.ring.specs.Phases.{Pair}
 use Rattle.rules.specs.declared.Stamp.{Stamp}
@@ -22,10 +23,11 @@ use Rattle.rules.specs.Model.{Result, reasons, done, own, event, freeMail, free
 use Rattle.rules.specs.Calls.{on, ringOf}
 use Rattle.rules.specs.Replies.{rowBytes, rowOf, stampedSays, postedSays, keptSays, blank, Beside, BesidePost}
 use Rattle.rules.proofs.Accepted.{no-local, no-send, no-receive, no-reset, no-keep}
-use Rattle.book.specs.Layout.{shelfFrom, mailFrom, setupOf, rowAt, Holds, post}
+use lib.ListN.{length}
+use Rattle.book.specs.Layout.{bookSize, seats, shelfFrom, mailFrom, setupOf, rowAt, Holds, post}
 use Rattle.book.specs.Sound.{sound}
 use Rattle.book.specs.Codec.{write}
-use Rattle.book.specs.Answers.{answerTo, leaves, bookAfter}
+use Rattle.book.specs.Answers.{answerTo, bookAfter}
 use Rattle.book.specs.Numbers.{tablesOf, numberOf}
 use Rattle.book.proofs.Codec.{decode-holds}
 use Rattle.rules.proofs.RowBytes.{Eight, rows-alike, row-of-bytes}
@@ -122,28 +124,34 @@ module _ (s : List ℕ) (c : Act) (e : numberOf s c ≡ 0) (j : ℕ) (g : AtDesk
       event-stamps s c e j (g .eight) after (tablesOf s .mail) (stamp j after) d s (decode-holds s (g .whole)) row er
       (seat-put-eight s j (g .eight) q) refl x b ex eb
 
-module _ (s : List ℕ) (j : ℕ) (e : numberOf s (local j) ≡ 0) where
+module _ (s : List ℕ) (j n : ℕ) (e : n ≡ numberOf s (local j)) (z : n ≡ 0) where
   pub local-grows : Grows s j
   local-grows =
-      let r = ready s (local j) e in
+      let r = ready s (local j) (sym e ∙ z) in
       let n = no-local (ringOf (setupOf s)) (setupOf s) (tablesOf s) j (r .1) in
       grows s j (r .0) (n .0) (n .1)
+
+  pub local-seat : (length s ≡ bookSize) × (j < seats)
+  local-seat = (local-grows .at .size, local-grows .at .eight)
 
   pub local-stamps : (x : Stamped) (row b : List ℕ) → x ≡ taken j row → row ≡ rowBytes (grownRow s j) → b ≡ post s j 1 0 row
       → Stamps s (local j) x b
   unfolding done
-  local-stamps = seat-stamps s (local j) e j (local-grows .at) _ refl
+  local-stamps = seat-stamps s (local j) (sym e ∙ z) j (local-grows .at) _ refl
 
-module _ (s : List ℕ) (j : ℕ) (e : numberOf s (reset j) ≡ 0) where
+module _ (s : List ℕ) (j n : ℕ) (e : n ≡ numberOf s (reset j)) (z : n ≡ 0) where
   pub reset-at : AtDesk s j
   reset-at =
-      let r = ready s (reset j) e in
+      let r = ready s (reset j) (sym e ∙ z) in
       at-desk s j (r .0) (no-reset (ringOf (setupOf s)) (setupOf s) (tablesOf s) j (r .1) .0)
+
+  pub reset-seat : (length s ≡ bookSize) × (j < seats)
+  reset-seat = (reset-at .size, reset-at .eight)
 
   pub reset-stamps : (x : Stamped) (row b : List ℕ) → x ≡ taken j row → row ≡ rowBytes (turnedRow s j) → b ≡ post s j 1 0 row
       → Stamps s (reset j) x b
   unfolding done
-  reset-stamps = seat-stamps s (reset j) e j reset-at _ refl
+  reset-stamps = seat-stamps s (reset j) (sym e ∙ z) j reset-at _ refl
 
 module _ (s : List ℕ) (j p : ℕ) (e : numberOf s (receive j p) ≡ 0) where
   receive-clear : (j < byte s 2) × (used (tablesOf s .mail p) ≡ true) × (own (tablesOf s) j .clock + 1 < byte s 4) × (p < 32)
@@ -236,16 +244,16 @@ module _ (s : List ℕ) (a p : ℕ) where
   used-ready e = let q = asked-clear s (not (usedAt s a p)) 4 e in (q .0, used-below s a p (not-off _ (q .1)))
 
   pub free-done : usedNumber s a p ≡ 0 → (b : List ℕ) → b ≡ cleared s (a + p) → b ≡ freeAfter s a p
-  free-done e b eb = eb ∙ ap (λ (n : ℕ). leaves n s (cleared s (a + p))) (sym e)
+  free-done e b eb = eb ∙ ap (λ (n : ℕ). ifDone n (cleared s (a + p)) s) (sym e)
 
   pub free-left : (n : ℕ) → n ≡ usedNumber s a p → (n ≡ 0 → ⊥) → s ≡ freeAfter s a p
   free-left zero e ne = absurd (ne refl)
-  free-left (suc n) e ne = ap (λ (m : ℕ). leaves m s (cleared s (a + p))) e
+  free-left (suc n) e ne = ap (λ (m : ℕ). ifDone m (cleared s (a + p)) s) e
 
   -- by an act that asks for it alone
   module _ (c : Act) (e : usedNumber s a p ≡ numberOf s c) (v : numberOf s c ≡ 0 → refusal 0 ≡ answerTo s (on c))
       (h : numberOf s c ≡ 0 → Holds (write (record { setup = setupOf s; tables = doneOn s c .tables })) (cleared s (a + p))) where
-    number-files : (n : ℕ) → n ≡ numberOf s c → Files s c n (leaves n s (cleared s (a + p)))
+    number-files : (n : ℕ) → n ≡ numberOf s c → Files s c n (ifDone n (cleared s (a + p)) s)
     number-files zero q = (v (sym q), accepted-bytes s c (sym q) _ (h (sym q)))
     number-files (suc n) q = refused-files s c (suc n) q (λ z. absurd (omega arith))
 
@@ -260,8 +268,8 @@ drop-files s p =
     free-files s shelfFrom p (drop p) refl (accepted-answer s (drop p))
     (λ e. let u = used-ready s shelfFrom p e in slot-put (setupOf s) (tablesOf s) s (decode-holds s (u .0)) p (u .1) none)
 
-pub discard-files : (s : List ℕ) (p n : ℕ) (b : List ℕ) → n ≡ usedNumber s 8 p → b ≡ freeAfter s 8 p → Files s (discard p) n b
+pub discard-files : (s : List ℕ) (p n : ℕ) (b : List ℕ) → n ≡ usedNumber s mailFrom p → b ≡ freeAfter s mailFrom p → Files s (discard p) n b
 unfolding reasons done
 discard-files s p =
-    free-files s 8 p (discard p) refl (accepted-answer s (discard p))
-    (λ e. let u = used-ready s 8 p e in mail-put (setupOf s) (tablesOf s) s (decode-holds s (u .0)) p (u .1) none)
+    free-files s mailFrom p (discard p) refl (accepted-answer s (discard p))
+    (λ e. let u = used-ready s mailFrom p e in mail-put (setupOf s) (tablesOf s) s (decode-holds s (u .0)) p (u .1) none)

@@ -10,11 +10,11 @@ use mathlib.Core.Path.{_≡_}
 use mathlib.Core.List.{List}
 use lib.ListN.{length}
 use Rattle.tools.specs.Lists.{byte}
+use Rattle.tools.specs.Reasons.{ifDone}
 use Rattle.rules.specs.declared.Setup.{Setup}
 use Rattle.rules.specs.Model.{zeros}
 use Rattle.rules.specs.Replies.{rowBytes}
 use Rattle.book.specs.Layout.{bookSize, headSize, recordSize, records, tagASpot, spot, headByte, mark0, mark1, post}
-use Rattle.book.specs.Answers.{leaves}
 use Rattle.refusals.specs.First.{usedNumber}
 
 abbrev pub cleared : List ℕ → ℕ → List ℕ
@@ -30,4 +30,4 @@ abbrev pub Marks : ℕ → ℕ → List ℕ → List ℕ → Type 0
 Marks a e s t = (X : Setup) → Written X a s → Written X e t
 
 abbrev pub freeAfter : List ℕ → ℕ → ℕ → List ℕ
-freeAfter s a p = leaves (usedNumber s a p) s (cleared s (a + p))
+freeAfter s a p = ifDone (usedNumber s a p) (cleared s (a + p)) s

@@ -24,7 +24,7 @@ use Rattle.rules.specs.Setups.{permits}
 use Rattle.rules.specs.Calls.{Book, Call, start, on, call}
 use Rattle.history.specs.History.{State, begin, next, after, logAfter, setupAfter}
 use Rattle.history.specs.Round.{roundBook}
-use Rattle.history.specs.Stamps.{labelOf, ownerAt, orShown, stampIn, stampGiven, Answered}
+use Rattle.history.specs.Stamps.{labelHeld, ownerAt, orShown, stampIn, stampGiven, Answered}
 use Rattle.history.specs.Demand.{InReach, BeforeSaid, CompareSaid}
 use Rattle.history.proofs.Labels.{off-before, off-compare, off-newest}
 use Rattle.history.proofs.Agree.{state-agree-before, state-agree-compare}
@@ -220,17 +220,17 @@ module _ (s : List ℕ) (X : Setup) (started : answerTo s (start X) .number ≡ 
     slot-is k m p = ap (λ (b : Book). b .tables .shelf k) (sym (together s X started cs .told)) ∙ p
 
     slot-reads : (k : ℕ) (m : Held) → decode bytes .tables .shelf k ≡ some m
-        → readStamp (setupAfter X cs) (writeStamp (setupAfter X cs .desks) (labelOf m)) ≡ some (labelOf m)
+        → readStamp (setupAfter X cs) (writeStamp (setupAfter X cs .desks) (labelHeld m)) ≡ some (labelHeld m)
     slot-reads k m p =
         let w = together s X started cs in
-        read-write (setupAfter X cs) few (labelOf m)
-        (subst (λ (Y : Setup). Readable Y (labelOf m)) (ap (λ (b : Book). b .setup) (w .told))
+        read-write (setupAfter X cs) few (labelHeld m)
+        (subst (λ (Y : Setup). Readable Y (labelHeld m)) (ap (λ (b : Book). b .setup) (w .told))
         (subst (λ (o : Option Held). Readable (decode bytes .setup) (record { owner = byIn o; row = rowIn o })) p
         (held-label (decode bytes .setup) _ k (decode bytes .tables .shelf k) (sound-fits bytes (w .whole) .shelf k) (ap used p))))
 
     -- When the book accepts, the records get the same answer.
     pub same-off-before : answerTo bytes (on (before i j)) .number ≡ 0
-        → beforeOf (setupAfter X cs) (writeStamp (setupAfter X cs .desks) (labelOf e)) (writeStamp (setupAfter X cs .desks) (labelOf f))
+        → beforeOf (setupAfter X cs) (writeStamp (setupAfter X cs .desks) (labelHeld e)) (writeStamp (setupAfter X cs .desks) (labelHeld f))
         ≡ answerTo bytes (on (before i j))
     same-off-before z =
         let w = together s X started cs in
@@ -239,7 +239,7 @@ module _ (s : List ℕ) (X : Setup) (started : answerTo s (start X) .number ≡ 
         (state-agree-before _ (w .faithful) i j e f (slot-is i e pe) (slot-is j f pf) (ap (λ (a : Answer). a .number) (sym g) ∙ z) ∙ sym g)
 
     pub same-off-compare : answerTo bytes (on (compare i j)) .number ≡ 0
-        → compareOf (setupAfter X cs) (writeStamp (setupAfter X cs .desks) (labelOf e)) (writeStamp (setupAfter X cs .desks) (labelOf f))
+        → compareOf (setupAfter X cs) (writeStamp (setupAfter X cs .desks) (labelHeld e)) (writeStamp (setupAfter X cs .desks) (labelHeld f))
         ≡ answerTo bytes (on (compare i j))
     same-off-compare z =
         let w = together s X started cs in

@@ -11,8 +11,8 @@
 --   call Z b c   the turn of the call c on the book b
 use mathlib.Core.Bool.{not}
 use mathlib.Core.List.{List, [], _∷_}
-use Prim.Native.Nat.{ℕ, zero, suc}
-use Rattle.tools.specs.Reasons.{Reason, first}
+use Prim.Native.Nat.{ℕ}
+use Rattle.tools.specs.Reasons.{Reason, first, ifDone}
 use Rattle.ring.specs.Phases.{Phases, ring, line}
 use Rattle.rules.specs.declared.Setup.{Setup}
 use Rattle.rules.specs.Setups.{permits}
@@ -41,8 +41,7 @@ abbrev pub freshBook : Setup → Book
 freshBook X = record { setup = X; tables = fresh }
 
 abbrev pub settled : ℕ → Book → Turn → Turn
-settled zero b t = t
-settled (suc n) b t = record { answer = refusal (suc n); book = b }
+settled n b t = ifDone n t (record { answer = refusal n; book = b })
 
 abbrev pub turnOf : Setup → Result → Turn
 turnOf X r = record { answer = r .answer; book = record { setup = X; tables = r .tables } }

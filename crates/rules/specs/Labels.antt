@@ -16,10 +16,10 @@
 use mathlib.Core.Bool.{Bool, true, false, not, _||_}
 use mathlib.Core.Option.{Option, none, some}
 use mathlib.Core.List.{List, [], _∷_}
-use Prim.Native.Nat.{ℕ, zero, suc, _-_}
+use Prim.Native.Nat.{ℕ, _-_}
 use lib.Dec.{ltb}
 use Rattle.tools.specs.Tests.{pick}
-use Rattle.tools.specs.Reasons.{Reason, first}
+use Rattle.tools.specs.Reasons.{Reason, first, ifDone}
 use Rattle.ring.specs.Phases.{Gap, lagOf}
 use Rattle.rules.specs.declared.Setup.{Setup}
 use Rattle.rules.specs.declared.Relation.{Relation}
@@ -61,8 +61,7 @@ abbrev pub whyOff : Setup → Option Label → Option Label → Bool → ℕ
 whyOff X e f out = first (reasonsOff X e f out)
 
 abbrev pub settleOff : ℕ → Value → Answer
-settleOff zero v = accepted v
-settleOff (suc n) v = refusal (suc n)
+settleOff n v = ifDone n (accepted v) (refusal n)
 
 unfoldable pub beforeOff : Setup → Option Label → Option Label → Answer
 beforeOff X e f =

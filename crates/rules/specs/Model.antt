@@ -1,5 +1,6 @@
 -- A book without its bytes, and one step function over any arithmetic of phases.
 -- Assumes nothing.
+--   seats            the seats; a row has a pair for each of their desks
 --   places           the mail places; there are as many shelf slots
 --   recordSize       the bytes of a stamp record
 --   Row              a pair for each desk
@@ -44,11 +45,11 @@
 use mathlib.Core.Bool.{Bool, true, false, not, _&&_, _||_}
 use mathlib.Core.Option.{Option, none, some}
 use mathlib.Core.List.{List, [], _∷_}
-use Prim.Native.Nat.{ℕ, zero, suc, _+_, _*_}
+use Prim.Native.Nat.{ℕ, _+_, _*_}
 use lib.Dec.{ltb, eqb}
 use Rattle.tools.specs.Tests.{pick, any, lowest}
 use Rattle.tools.specs.Tables.{put}
-use Rattle.tools.specs.Reasons.{Reason, first}
+use Rattle.tools.specs.Reasons.{Reason, first, ifDone}
 use Rattle.ring.specs.Phases.{Phases, Pair, Gap, laterBy, lagGap, later}
 use Rattle.rules.specs.declared.Setup.{Setup}
 use Rattle.rules.specs.declared.Relation.{Relation}
@@ -69,6 +70,9 @@ use Rattle.rules.specs.Numbers.{
   OutOfReach,
   given,
 }
+
+abbrev pub seats : ℕ
+seats = 8
 
 abbrev pub places : ℕ
 places = 32
@@ -150,10 +154,12 @@ abbrev pub nothing : Value
 nothing = record { place = none; stamp = none; slot = none; verdict = none; relation = none; row = none }
 
 abbrev pub stamp : ℕ → Row → Value
-stamp j r = record { place = none; stamp = some record { owner = j; row = r }; slot = none; verdict = none; relation = none; row = none }
+stamp j r =
+    record { place = none; stamp = some record { owner = j; row = r }; slot = none; verdict = none; relation = none; row = none }
 
 abbrev pub sent : ℕ → ℕ → Row → Value
-sent p j r = record { place = some p; stamp = some record { owner = j; row = r }; slot = none; verdict = none; relation = none; row = none }
+sent p j r =
+    record { place = some p; stamp = some record { owner = j; row = r }; slot = none; verdict = none; relation = none; row = none }
 
 abbrev pub slot : ℕ → Value
 slot s = record { place = none; stamp = none; slot = some s; verdict = none; relation = none; row = none }
@@ -285,8 +291,7 @@ abbrev pub telling : Tables → Value → Result
 telling b v = record { answer = accepted v; tables = b }
 
 abbrev pub settle : ℕ → Tables → Result → Result
-settle zero b r = r
-settle (suc n) b r = record { answer = refusal (suc n); tables = b }
+settle n b r = ifDone n r (record { answer = refusal n; tables = b })
 
 module _ (Z : Phases) where
   abbrev pub turn : Pair → Pair

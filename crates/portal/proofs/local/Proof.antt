@@ -1,17 +1,9 @@
 -- `portal::local` meets its contract.
 -- Assumes nothing.
-use mathlib.Core.Path.{_≡_, sym, _∙_}
-use Rattle.book.specs.Numbers.{numberOf}
-use Rattle.rules.specs.Model.{local}
-use Rattle.portal.proofs.Acts.{refused-stamps, local-grows, local-stamps}
+use Rattle.portal.proofs.Acts.{refused-stamps, local-grows, local-seat, local-stamps}
 use borrow.Author.Needs.{needs}
 use Rattle.portal.proofs.local.Statement.{statement}
 use Rattle.portal.proofs.local.Tie as tie
-
--- what came in, and that its number is 0
-done : (c : tie.Else1)
-    → numberOf (c .before .before .before .before .args .book .now) (local (c .before .before .before .before .args .desk)) ≡ 0
-done c = sym (c .before .local-number .ensures) ∙ c .if1 .left
 
 returns : tie.Need-returns
 returns c =
@@ -19,24 +11,17 @@ returns c =
     refused-stamps _ _ (w .result) (w .ensures) (c .before .if1 .taken) _ (c .refused .ensures)
 
 grown-row-requires : tie.Need-grown-row-requires
-grown-row-requires c κs =
-    let g = c .before in
-    let x = g .before .before .before .before .args in
-    local-grows (x .book .now) (x .desk) (done g)
+grown-row-requires c κs = let g = c .before in local-grows _ _ _ (g .before .local-number .ensures) (g .if1 .left)
 
 take-row-requires : tie.Need-take-row-requires
-take-row-requires c κs =
-    let g = c .before .before .before in
-    let x = g .before .before .before .before .args in
-    let a = local-grows (x .book .now) (x .desk) (done g) .at in
-    (a .size, a .eight)
+take-row-requires c κs = let g = c .before .before .before in local-seat _ _ _ (g .before .local-number .ensures) (g .if1 .left)
 
 returns-2 : tie.Need-returns-2
 returns-2 c =
-    let g = c .before .before .before .before .before .before in
-    let x = g .before .before .before .before .args in
+    let r = c .before .before .before .before in
+    let g = r .before .before in
     let t = c .before .before .take-row .ensures in
-    local-stamps (x .book .now) (x .desk) (done g) _ _ _ (t .0) (c .before .before .before .before .grown-row .ensures) (t .1)
+    local-stamps _ _ _ (g .before .local-number .ensures) (g .if1 .left) _ _ _ (t .0) (r .grown-row .ensures) (t .1)
 
 pub local-spec : {M : Type 1} → statement M
 local-spec =
