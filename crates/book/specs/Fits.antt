@@ -13,7 +13,7 @@ use mathlib.Core.Bool.{false}
 use Rattle.tools.specs.Tables.{Each}
 use Rattle.ring.specs.Phases.{Pair, lagOf}
 use Rattle.rules.specs.declared.Setup.{Setup}
-use Rattle.rules.specs.Model.{Row, Held, Tables, phases, zeros, idle}
+use Rattle.rules.specs.Model.{places, Row, Held, Tables, phases, zeros, idle}
 
 pub record InRange (X : Setup) (o B : ℕ) (q : Pair) : Type 0 where
   pub phase : q .phase < X .phases
@@ -28,14 +28,14 @@ RowFits X o B r = (k : ℕ) → PairFits X (o k) B k (r k)
 
 -- waiting mail names two different desks
 pub record MailFits (X : Setup) (o : ℕ → ℕ) (p : ℕ) (w : Held) : Type 0 where
-  pub place : p < 32
+  pub place : p < places
   pub by : w .by < X .desks
   pub to : w .to < X .desks
   pub differ : w .by ≡ w .to → ⊥
   pub row : RowFits X o (2 * X .seatLag) (w .row)
 
 pub record SlotFits (X : Setup) (o : ℕ → ℕ) (s : ℕ) (w : Held) : Type 0 where
-  pub place : s < 32
+  pub place : s < places
   pub by : w .by < X .desks
   pub to : w .to ≡ 0
   pub row : RowFits X o (X .shelfLag) (w .row)

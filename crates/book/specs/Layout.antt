@@ -10,6 +10,7 @@
 --   rowSpot          the byte of a record where its row begins
 --   phaseSpot j, clockSpot j   which byte of a row is the phase of desk j, and which the clock
 --   bookMark0, bookMark1   the mark of a book
+--   spareFrom, spareSize   the byte of the header where its filler begins, and how many bytes it has
 --   Record           the two tags and the row of a record
 --   Fields           the setup and the records
 --   spot k c         where byte c of record k stands
@@ -33,8 +34,9 @@ use Rattle.tools.specs.Tests.{pick}
 use Rattle.tools.specs.Lists.{byte, tab, mid}
 use Rattle.rules.specs.declared.Setup.{Setup}
 use Rattle.rules.specs.Model.{Row}
-pub use Rattle.rules.specs.Model.{places, recordSize}
+pub use Rattle.rules.specs.Model.{seats, places, recordSize}
 use Rattle.rules.specs.Replies.{rowByte}
+pub use Rattle.rules.specs.Replies.{rowSize, phaseSpot, clockSpot}
 
 pub record Record : Type 0 where
   pub tagA : ℕ
@@ -47,12 +49,6 @@ pub record Fields : Type 0 where
 
 abbrev pub headSize : ℕ
 headSize = 16
-
-abbrev pub rowSize : ℕ
-rowSize = 16
-
-abbrev pub seats : ℕ
-seats = 8
 
 abbrev pub mailFrom : ℕ
 mailFrom = 8
@@ -75,17 +71,17 @@ tagBSpot = 3
 abbrev pub rowSpot : ℕ
 rowSpot = 4
 
-abbrev pub phaseSpot : ℕ → ℕ
-phaseSpot j = 2 * j
-
-abbrev pub clockSpot : ℕ → ℕ
-clockSpot j = 1 + 2 * j
-
 abbrev pub bookMark0 : ℕ
 bookMark0 = 0x42
 
 abbrev pub bookMark1 : ℕ
 bookMark1 = 0x4B
+
+abbrev pub spareFrom : ℕ
+spareFrom = 9
+
+abbrev pub spareSize : ℕ
+spareSize = 7
 
 abbrev pub spot : ℕ → ℕ → ℕ
 spot k c = headSize + recordSize * k + c

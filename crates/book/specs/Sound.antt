@@ -24,7 +24,7 @@ use Rattle.ring.specs.Phases.{Pair, lagOf}
 use Rattle.rules.specs.declared.Setup.{Setup}
 use Rattle.rules.specs.Setups.{permits}
 use Rattle.rules.specs.Model.{limit}
-use Rattle.book.specs.Layout.{bookSize, records, seats, shelfFrom, bookMark0, bookMark1}
+use Rattle.book.specs.Layout.{bookSize, records, seats, shelfFrom, bookMark0, bookMark1, spareFrom, spareSize}
 use Rattle.book.specs.Layout.{Fields, fields, setupOf, spot, mark0, mark1}
 
 unfoldable pub pairOk : Setup → ℕ → ℕ → ℕ → Pair → Bool
@@ -75,10 +75,10 @@ unfoldable pub recordOk : Fields → ℕ → Bool
 recordOk f k = pick (ltb k seats) (seatOk f k) (pick (ltb k shelfFrom) (mailOk f k) (slotOk f k))
 
 unfoldable pub spareZero : List ℕ → ℕ → Bool
-spareZero b i = eqb (byte b (9 + i)) 0
+spareZero b i = eqb (byte b (spareFrom + i)) 0
 
 unfoldable pub headOk : List ℕ → Bool
-headOk b = allOf (eqb (byte b 0) bookMark0 ∷ eqb (byte b 1) bookMark1 ∷ allBelow 7 (spareZero b) ∷ [])
+headOk b = allOf (eqb (byte b 0) bookMark0 ∷ eqb (byte b 1) bookMark1 ∷ allBelow spareSize (spareZero b) ∷ [])
 
 unfoldable pub recordSound : List ℕ → ℕ → Bool
 recordSound b k =

@@ -1,6 +1,7 @@
 -- Stamp records: twenty bytes, laid out as the records of a book are.
 -- Assumes nothing.
---   stampByte D e c   byte c of the record of the stamp e: mark 53 54, owner, D, row
+--   stampMark0, stampMark1   the mark of a stamp record
+--   stampByte D e c   byte c of the record of the stamp e: mark, owner, D, row
 --   writeStamp D e    the record
 --   pairReads X j q   the pair q for desk j is in range; zero where there is no desk j
 --   readOk X r        the bytes r read as a record under the setup X, clause by clause
@@ -17,13 +18,18 @@ use Rattle.tools.specs.Tests.{pick, allOf, allBelow}
 use Rattle.tools.specs.Lists.{byte, tab}
 use Rattle.ring.specs.Phases.{Pair}
 use Rattle.rules.specs.declared.Setup.{Setup}
-use Rattle.rules.specs.Model.{limit}
-use Rattle.rules.specs.Model.{Label}
+use Rattle.rules.specs.Model.{limit, Label}
 use Rattle.rules.specs.Replies.{rowOf}
 use Rattle.book.specs.Layout.{recordSize, seats, tagASpot, tagBSpot, rowSpot, markedByte}
 
+abbrev pub stampMark0 : ℕ
+stampMark0 = 0x53
+
+abbrev pub stampMark1 : ℕ
+stampMark1 = 0x54
+
 abbrev pub stampByte : ℕ → Label → ℕ → ℕ
-stampByte D e c = markedByte 0x53 0x54 (record { tagA = e .owner; tagB = D; row = e .row }) c
+stampByte D e c = markedByte stampMark0 stampMark1 (record { tagA = e .owner; tagB = D; row = e .row }) c
 
 unfoldable pub writeStamp : ℕ → Label → List ℕ
 writeStamp D e = tab 0 recordSize (stampByte D e)
@@ -40,8 +46,8 @@ unfoldable pub readOk : Setup → List ℕ → Bool
 readOk X r =
     allOf
     (eqb (length r) recordSize
-    ∷ eqb (byte r 0) 0x53
-    ∷ eqb (byte r 1) 0x54
+    ∷ eqb (byte r 0) stampMark0
+    ∷ eqb (byte r 1) stampMark1
     ∷ ltb (byte r tagASpot) (X .desks)
     ∷ eqb (byte r tagBSpot) (X .desks)
     ∷ allBelow seats (λ j. pairReads X j (labelOf r .row j))

@@ -1,6 +1,6 @@
 -- The answers to before and compare off the book, from what was read on.
 -- Assumes nothing.
-use Prim.Native.Nat.{ℕ, zero, suc, _+_, _*_, _-_, _<_, _≤_}
+use Prim.Native.Nat.{ℕ, zero, suc, _+_, _-_, _<_, _≤_}
 use mathlib.Core.Path.{_≡_, refl, sym, ap, _∙_}
 use mathlib.Core.Bool.{Bool, true, false, not, _||_, false≢true}
 use mathlib.Core.Option.{Option, none, some}
@@ -23,6 +23,7 @@ use Rattle.rules.specs.Model.{Label}
 use Rattle.rules.specs.Labels.{reads, ownerIn, rowRead, gapOff, gapRead, whyOff, beforeOff, compareOff, newer, newestBy, newestOff}
 use Rattle.rules.specs.Replies.{rowOf, comparedSays}
 use Rattle.rules.proofs.Setups.{Permitted, permitted}
+use Rattle.book.specs.Layout.{rowSpot, phaseSpot, clockSpot}
 use Rattle.book.specs.Stamps.{labelOf, readOk, readStamp}
 use Rattle.comparing.specs.Answers.{beforeBy, compareBy}
 use Rattle.comparing.proofs.Answers.{before-off, compare-off}
@@ -96,8 +97,8 @@ pub record Ready (X : Setup) (a b : List ℕ) (j : ℕ) : Type 0 where
   pub one : length a ≡ 20
   pub two : length b ≡ 20
   pub desk : j < X .desks
-  pub old : byte a (4 + 2 * j) < X .phases
-  pub new : byte b (4 + 2 * j) < X .phases
+  pub first : byte a (rowSpot + phaseSpot j) < X .phases
+  pub second : byte b (rowSpot + phaseSpot j) < X .phases
 
 module _ (X : Setup) (a b : List ℕ) (j : ℕ) (h : Both X a b) (own : ownerIn (readStamp X a) ≡ j) where
   fair : Permitted X
@@ -118,7 +119,7 @@ module _ (X : Setup) (a b : List ℕ) (j : ℕ) (h : Both X a b) (own : ownerIn 
   eight : j < 8
   eight = let p = fair in omega (arith, desk)
 
-  phase-below : (r : List ℕ) → readStamp X r ≡ some (labelOf r) → byte r (4 + 2 * j) < X .phases
+  phase-below : (r : List ℕ) → readStamp X r ≡ some (labelOf r) → byte r (rowSpot + phaseSpot j) < X .phases
   phase-below r e =
       let p = pair-below X j (labelOf r .row j) (read-readable X (fair .few) r (labelOf r) e .row j) desk in
       rw (label-pair r j eight) at (p .0)
@@ -130,23 +131,21 @@ module _ (X : Setup) (a b : List ℕ) (j : ℕ) (h : Both X a b) (own : ownerIn 
         one = stamp-told X a (labelOf a) one .0 .size;
         two = stamp-told X b (labelOf b) two .0 .size;
         desk = desk;
-        old = phase-below a one;
-        new = phase-below b two;
+        first = phase-below a one;
+        second = phase-below b two;
       }
 
-  -- read at the number n of the desk
-  module _ (n : ℕ) (same : n ≡ j) where
-    phase-at : (r : List ℕ) → byte r (4 + 2 * n) ≡ labelOf r .row j .phase
-    phase-at r = ap (λ i. byte r (4 + 2 * i)) same ∙ sym (ap (λ (q : Pair). q .phase) (label-pair r j eight))
+  -- read where the desk's phase and clock stand
+  module _ (p c : ℕ) (ep : p ≡ rowSpot + phaseSpot j) (ec : c ≡ rowSpot + clockSpot j) where
+    phase-at : (r : List ℕ) → byte r p ≡ labelOf r .row j .phase
+    phase-at r = ap (byte r) ep ∙ sym (ap (λ (q : Pair). q .phase) (label-pair r j eight))
 
-    clock-at : (r : List ℕ) → byte r (4 + 2 * n + 1) ≡ labelOf r .row j .clock
-    clock-at r =
-        let i : 4 + 2 * n + 1 ≡ 4 + (2 * j + 1) = omega (arith, same) in
-        ap (byte r) i ∙ sym (ap (λ (q : Pair). q .clock) (label-pair r j eight))
+    clock-at : (r : List ℕ) → byte r c ≡ labelOf r .row j .clock
+    clock-at r = ap (byte r) ec ∙ sym (ap (λ (q : Pair). q .clock) (label-pair r j eight))
 
     -- the way, by the difference that the bytes show
     between : (up down : ℕ) → gapOff X j (labelOf a .row) (labelOf b .row) ≡ near X (record { up = up; down = down })
-        → WayRead X a b j (record { up = up; down = down; from = byte a (4 + 2 * n + 1); to = byte b (4 + 2 * n + 1) })
+        → WayRead X a b j (record { up = up; down = down; from = byte a c; to = byte b c })
     between up down g =
         record {
           gap = (λ i. gapRead X (one i) (two i)) ∙ ap (λ o. gapOff X o (labelOf a .row) (labelOf b .row)) owner ∙ g;
@@ -157,19 +156,19 @@ module _ (X : Setup) (a b : List ℕ) (j : ℕ) (h : Both X a b) (own : ownerIn 
               };
         }
 
-    module _ (r : ℕ) (lag : r ≡ lagOf (X .phases) (byte b (4 + 2 * n)) (byte a (4 + 2 * n))) where
+    module _ (r : ℕ) (lag : r ≡ lagOf (X .phases) (byte b p) (byte a p)) where
       lag-is : lagOf (X .phases) (labelOf b .row j .phase) (labelOf a .row j .phase) ≡ r
       lag-is = sym (lag ∙ (λ i. lagOf (X .phases) (phase-at b i) (phase-at a i)))
 
       pub way-ahead : r < X .ahead
-          → WayRead X a b j (record { up = r; down = 0; from = byte a (4 + 2 * n + 1); to = byte b (4 + 2 * n + 1) })
+          → WayRead X a b j (record { up = r; down = 0; from = byte a c; to = byte b c })
       way-ahead l =
           between r 0
           (gap-ahead X j (labelOf a .row) (labelOf b .row) (fair .back) (omega (arith, l, lag-is))
           ∙ ap (λ u. near X (record { up = u; down = 0 })) lag-is)
 
       pub way-back : X .ahead ≤ r
-          → WayRead X a b j (record { up = 0; down = X .phases - r; from = byte a (4 + 2 * n + 1); to = byte b (4 + 2 * n + 1) })
+          → WayRead X a b j (record { up = 0; down = X .phases - r; from = byte a c; to = byte b c })
       way-back l =
           between 0 (X .phases - r)
           (gap-back X j (labelOf a .row) (labelOf b .row) (fair .forth) (omega (arith, l, lag-is))

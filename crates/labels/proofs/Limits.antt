@@ -1,17 +1,16 @@
 -- The limits that the rows of records are held to, and that what keeps to them reads.
 -- Assumes nothing.
-use Prim.Native.Nat.{ℕ, _+_, _*_, _-_, _/_, _%_, _≤_, _<_}
+use Prim.Native.Nat.{ℕ, _+_, _-_, _/_, _%_, _≤_, _<_}
 use mathlib.Core.Path.{_≡_, refl, sym, ap, _∙_}
 use mathlib.Core.Bool.{Bool, true, false, _&&_, true≢false}
 use mathlib.Core.Option.{none, some}
 use mathlib.Core.List.{List, [], _∷_}
 use mathlib.Core.Logic.{⊎-elim}
 use native.Mathlib.Omega.{arith}
-use native.Mathlib.Numerals.{add-one}
 use borrow.Author.Tests.{eq-eqb, ne-eqb, eqb-true, ltb-true, ltb-false, lt-ltb, le-ltb, leb-true, leb-false, le-leb}
 use lib.Dec.{ltb, leb, eqb}
 use lib.ListN.{length}
-use Rattle.tools.specs.Tests.{pick, allOf, allBelow}
+use Rattle.tools.specs.Tests.{pick, allOf}
 use Rattle.tools.specs.Lists.{byte, tab}
 use Rattle.tools.proofs.Tests.{eq-or-ne, pick-ap, and-true-l, and-true-r, alike, same-by, each, all-at}
 use Rattle.tools.proofs.Lists.{tab-at, tab-same}
@@ -19,7 +18,7 @@ use Rattle.ring.specs.Phases.{Pair}
 use Rattle.rules.specs.declared.Setup.{Setup}
 use Rattle.rules.specs.Numbers.{BadStamp, number}
 use Rattle.rules.specs.Model.{zeros}
-use Rattle.rules.specs.Replies.{rowByte, rowBytes}
+use Rattle.rules.specs.Replies.{phaseSpot, clockSpot, rowByte, rowBytes}
 use Rattle.rules.proofs.RowBytes.{row-phase, row-clock}
 use Rattle.book.specs.Stamps.{labelOf, pairReads, readOk, readStamp}
 use Rattle.labels.specs.declared.Owner.the-variants.{Of, Refused}
@@ -104,19 +103,20 @@ up-to-none v =
 
 -- the pair of desk j, by its two bytes
 module _ (X : Setup) (l : List ℕ) (h : Lasts X l) (j : ℕ) (m : j < 8) where
-  phase-last : byte l (2 * j) ≡ lastRow X j .phase
+  phase-last : byte l (phaseSpot j) ≡ lastRow X j .phase
   unfolding rowBytes
-  phase-last = ap (λ (b : List ℕ). byte b (2 * j)) (h .bytes) ∙ tab-at 16 (rowByte (lastRow X)) (2 * j) (omega arith) ∙ row-phase (lastRow X) j
+  phase-last =
+      ap (λ (b : List ℕ). byte b (phaseSpot j)) (h .bytes) ∙ tab-at 16 (rowByte (lastRow X)) (phaseSpot j) (omega arith)
+      ∙ row-phase (lastRow X) j
 
-  clock-last : byte l (2 * j + 1) ≡ lastRow X j .clock
+  clock-last : byte l (clockSpot j) ≡ lastRow X j .clock
   unfolding rowBytes
   clock-last =
-      let e : 2 * j + 1 ≡ 1 + 2 * j = omega arith in
-      ap (λ (b : List ℕ). byte b (2 * j + 1)) (h .bytes) ∙ tab-at 16 (rowByte (lastRow X)) (2 * j + 1) (omega arith)
-      ∙ ap (rowByte (lastRow X)) e ∙ row-clock (lastRow X) j
+      ap (λ (b : List ℕ). byte b (clockSpot j)) (h .bytes) ∙ tab-at 16 (rowByte (lastRow X)) (clockSpot j) (omega arith)
+      ∙ row-clock (lastRow X) j
 
   pub pair-up-to : (v t : ℕ) → v < 256 → t < 256
-      → (leb v (byte l (2 * j)) && leb t (byte l (2 * j + 1))) ≡ pairReads X j (record { phase = v; clock = t })
+      → (leb v (byte l (phaseSpot j)) && leb t (byte l (clockSpot j))) ≡ pairReads X j (record { phase = v; clock = t })
   unfolding pairReads allOf
   pair-up-to v t a b = rw (phase-last, clock-last, pairReads) (go (ltb j (X .desks)))
     where
@@ -134,18 +134,6 @@ lasts-held X l e t =
       phases = ltb-true _ _ (and-true-l (ltb 0 (X .phases)) _ t);
       clocks = ltb-true _ _ (and-true-r (ltb 0 (X .phases)) (ltb 0 (X .clocks)) t);
     }
-
--- one pair more of those that read, where there is a phase and a clock value at all
-pub reads-more : (p : ℕ → Bool) (n : ℕ) (some ok t : Bool) → ok ≡ (some && allBelow n p) → (some ≡ true → t ≡ p n)
-    → (ok && t) ≡ (some && allBelow (n + 1) p)
-unfolding allBelow
-reads-more p n true ok t a h = rw (add-one, a, h refl)
-reads-more p n false ok t a h = rw a
-
-pub reads-none : (p : ℕ → Bool) (some : Bool) → some ≡ (some && allBelow 0 p)
-unfolding allBelow
-reads-none p true = refl
-reads-none p false = refl
 
 -- a record reads exactly where its row does and what stands before it
 module _ (X : Setup) (r : List ℕ) where

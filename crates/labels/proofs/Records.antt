@@ -1,6 +1,6 @@
 -- Stamp records, byte by byte, and their round trips.
 -- Assumes nothing.
-use Prim.Native.Nat.{ℕ, _+_, _*_, _<_, _≤_}
+use Prim.Native.Nat.{ℕ, _+_, _<_, _≤_}
 use mathlib.Core.Path.{_≡_, refl, sym, ap, _∙_, fun-ext}
 use mathlib.Core.Bool.{Bool, true, false}
 use mathlib.Core.Option.{none, some}
@@ -17,20 +17,19 @@ use Rattle.tools.proofs.Tests.{each, all-at, all-in, lt-or-le}
 use Rattle.tools.proofs.Lists.{length-tab, tab-at, is-tab}
 use Rattle.ring.specs.Phases.{Pair}
 use Rattle.rules.specs.declared.Setup.{Setup}
-use Rattle.rules.specs.Model.{zeros, grown, fresh}
-use Rattle.rules.specs.Model.{Label}
+use Rattle.rules.specs.Model.{Label, zeros, grown, fresh}
 use Rattle.rules.specs.Replies.{rowByte, rowBytes}
-use Rattle.book.specs.Layout.{markedByte}
-use Rattle.book.specs.Stamps.{stampByte, writeStamp, labelOf, pairReads, readOk, readStamp}
+use Rattle.book.specs.Layout.{rowSpot, phaseSpot, clockSpot, markedByte}
+use Rattle.book.specs.Stamps.{stampMark0, stampMark1, stampByte, writeStamp, labelOf, pairReads, readOk, readStamp}
 use Rattle.rules.proofs.RowBytes.{row-phase, row-clock, bytes-of-row}
 use Rattle.book.proofs.Bytes.{marked-row, marked-bytes}
 use Rattle.labels.specs.Records.{Readable}
 
 pub label-pair : (r : List ℕ) (j : ℕ) → j < 8
-    → labelOf r .row j ≡ record { phase = byte r (4 + 2 * j); clock = byte r (4 + (2 * j + 1)) }
+    → labelOf r .row j ≡ record { phase = byte r (rowSpot + phaseSpot j); clock = byte r (rowSpot + clockSpot j) }
 label-pair r j l =
     rw (lt-ltb j 8 l)
-    (λ i. record { phase = getD-drop 4 r (2 * j) 0 i; clock = getD-drop 4 r (2 * j + 1) 0 i })
+    (λ i. record { phase = getD-drop rowSpot r (phaseSpot j) 0 i; clock = getD-drop rowSpot r (clockSpot j) 0 i })
 
 -- the sixteen bytes after the mark, the owner and D
 pub row-dropped : (r : List ℕ) → length r ≡ 20 → tab 0 16 (λ c. byte r (4 + c)) ≡ drop 4 r
@@ -145,15 +144,13 @@ module _ (X : Setup) (few : X .desks ≤ 8) where
     written-at c l = tab-at 20 (stampByte (X .desks) e) c l
 
     written-row : (c : ℕ) → c < 16 → byte written (4 + c) ≡ rowByte (e .row) c
-    written-row c l = written-at (4 + c) (omega arith) ∙ marked-row 0x53 0x54 _ c
+    written-row c l = written-at (4 + c) (omega arith) ∙ marked-row stampMark0 stampMark1 _ c
 
     row-told : (j : ℕ) → labelOf written .row j ≡ e .row j
     row-told j =
         ⊎-elim (λ (l : j < 8).
-        let s : 4 + (2 * j + 1) ≡ 4 + (1 + 2 * j) = omega arith in
-        let p : byte written (4 + 2 * j) ≡ e .row j .phase = written-row (2 * j) (omega arith) ∙ row-phase (e .row) j in
-        let q : byte written (4 + (2 * j + 1)) ≡ e .row j .clock
-        = ap (byte written) s ∙ written-row (1 + 2 * j) (omega arith) ∙ row-clock (e .row) j in
+        let p = written-row (phaseSpot j) (omega arith) ∙ row-phase (e .row) j in
+        let q = written-row (clockSpot j) (omega arith) ∙ row-clock (e .row) j in
         label-pair written j l ∙ (λ i. record { phase = p i; clock = q i }))
         (λ (l : 8 ≤ j). rw (le-ltb j 8 l) (sym (pair-zero X j (e .row j) (h .row j) (omega arith)))) (lt-or-le j 8)
 

@@ -16,7 +16,8 @@ use Rattle.tools.specs.Lists.{byte}
 use Rattle.rules.specs.declared.Setup.{Setup}
 use Rattle.rules.specs.Model.{Row, zeros, limit}
 use Rattle.rules.specs.Replies.{rowBytes}
-use Rattle.book.specs.Stamps.{labelOf, pairReads}
+use Rattle.book.specs.Layout.{recordSize, seats, tagASpot, tagBSpot}
+use Rattle.book.specs.Stamps.{stampMark0, stampMark1, labelOf, pairReads}
 
 unfoldable pub lastOf : ℕ → ℕ
 lastOf n = pick (ltb 255 n) 255 (n - 1)
@@ -32,10 +33,12 @@ pub record Lasts (X : Setup) (l : List ℕ) : Type 0 where
 unfoldable pub rowReads : Setup → List ℕ → Bool
 rowReads X r =
     allOf
-    (eqb (length r) 20
+    (eqb (length r) recordSize
     ∷ (ltb 0 (X .phases) && ltb 0 (X .clocks))
-    ∷ allBelow 8 (λ j. pairReads X j (labelOf r .row j))
+    ∷ allBelow seats (λ j. pairReads X j (labelOf r .row j))
     ∷ [])
 
 unfoldable pub headReads : ℕ → List ℕ → Bool
-headReads D r = allOf (eqb (byte r 0) 0x53 ∷ eqb (byte r 1) 0x54 ∷ ltb (byte r 2) D ∷ eqb (byte r 3) D ∷ [])
+headReads D r =
+    allOf
+    (eqb (byte r 0) stampMark0 ∷ eqb (byte r 1) stampMark1 ∷ ltb (byte r tagASpot) D ∷ eqb (byte r tagBSpot) D ∷ [])

@@ -4,9 +4,10 @@ ghost use Prim.Native.Nat.{_-_, _<_};
 ghost use lib.Dec.{ltb};
 ghost use lib.ListN.{length};
 ghost use Rattle.tools.specs.Tests.{pick};
-ghost use Rattle.rules.specs.Labels.{ownerIn, beforeOff, compareOff};
-ghost use Rattle.rules.specs.Model.{recordSize};
+ghost use Rattle.rules.specs.Labels.{ownerIn};
 ghost use Rattle.rules.specs.Replies.{rowBytes, rowOf, toldSays, comparedSays};
+ghost use Rattle.book.specs.Layout.{recordSize, seats};
+ghost use Rattle.book.specs.Answers.{beforeOf, compareOf};
 ghost use Rattle.book.specs.Stamps.{writeStamp, labelOf, pairReads, readStamp};
 ghost use Rattle.labels.specs.Limits.{lastOf, lastRow, Lasts, rowReads, headReads};
 ghost use Rattle.labels.specs.Records.{readAs, readSays, rowBeside, newestOf};
@@ -60,10 +61,10 @@ fn least(one: u8, other: u8) -> u8
 
 // How many of the eight desks that a row has room for are not there.
 fn missing(desks: usize) -> usize
-    ensures { λ r. ⌜ r ≡ 8 - desks ⌝ }
+    ensures { λ r. ⌜ r ≡ seats - desks ⌝ }
 {
-    if desks < 8 {
-        return 8 - desks;
+    if desks < parts::SEATS {
+        return parts::SEATS - desks;
     }
     0
 }
@@ -78,7 +79,7 @@ fn lasts_of(setup: Setup) -> [u8; 16]
     let last = [last_of(setup.phases), last_of(setup.clocks)];
     let mut lasts = [0u8; 16];
     let mut c: usize = 0;
-    while c < 16 {
+    while c < parts::ROW_BYTES {
         lasts[c] = least(last[c % 2], most[from + c / 2]);
         c += 1;
     }
@@ -86,11 +87,12 @@ fn lasts_of(setup: Setup) -> [u8; 16]
 }
 
 fn pair_reads(lasts: &[u8; 16], bytes: &[u8], j: usize) -> bool
-    requires { ⌜ (length (now bytes) ≡ recordSize) × (j < 8) ⌝ }
+    requires { ⌜ (length (now bytes) ≡ recordSize) × (j < seats) ⌝ }
     ensures { λ r. ⌜ ((X : Setup) → Lasts X (now (lasts .entry)) → r ≡ pairReads X j (labelOf (now (bytes .entry)) .row j)) ⌝ }
 {
-    (bytes[parts::ROW + 2 * j] <= lasts[2 * j])
-        & (bytes[parts::ROW + (2 * j + 1)] <= lasts[2 * j + 1])
+    let phase = parts::phase_spot(j);
+    let clock = parts::clock_spot(j);
+    (bytes[parts::ROW + phase] <= lasts[phase]) & (bytes[parts::ROW + clock] <= lasts[clock])
 }
 
 // No pair ends the loop early: so all eight are compared at once. Without a phase or a clock value no row reads.
@@ -103,7 +105,7 @@ fn row_reads(setup: Setup, lasts: &[u8; 16], bytes: &[u8]) -> bool
     }
     let mut ok = (0 < setup.phases) & (0 < setup.clocks);
     let mut j: usize = 0;
-    while j < 8 {
+    while j < parts::SEATS {
         ok = ok & pair_reads(lasts, bytes, j);
         j += 1;
     }
@@ -116,7 +118,8 @@ fn head_reads(desks: usize, bytes: &[u8]) -> bool
 {
     (bytes[0] == MARK0)
         & ((bytes[1] == MARK1)
-            & ((tools::wide(bytes[2]) < desks) & (tools::wide(bytes[3]) == desks)))
+            & ((tools::wide(bytes[parts::TAG_A]) < desks)
+                & (tools::wide(bytes[parts::TAG_B]) == desks)))
 }
 
 // The owner of a record, or its refusal. Whether the row reads is asked apart: each function is then small enough to be put in place.
@@ -125,7 +128,7 @@ fn who_of(setup: Setup, bytes: &[u8], ok: bool) -> Owner
     ensures { λ r. ⌜ r ≡ ownerRead (readStamp setup (now (bytes .entry))) ⌝ }
 {
     if ok && head_reads(setup.desks, bytes) {
-        return Owner::Of(bytes[2]);
+        return Owner::Of(bytes[parts::TAG_A]);
     }
     Owner::Refused(rules::BAD_STAMP)
 }
@@ -155,8 +158,8 @@ pub fn record_of(desks: u8, stamp: Stamp) -> [u8; 20]
     let mut bytes = [0u8; 20];
     bytes[0] = MARK0;
     bytes[1] = MARK1;
-    bytes[2] = stamp.owner;
-    bytes[3] = desks;
+    bytes[parts::TAG_A] = stamp.owner;
+    bytes[parts::TAG_B] = desks;
     let mut c: usize = parts::ROW;
     while c < parts::RECORD_BYTES {
         bytes[c] = row[c - parts::ROW];
@@ -172,13 +175,15 @@ fn way(setup: Setup, owner: u8, first: &[u8], second: &[u8]) -> Way
     requires { ⌜ ownerIn (readStamp setup (now first)) ≡ owner ⌝ }
     ensures { λ w. ⌜ WayRead setup (now (first .entry)) (now (second .entry)) owner w ⌝ }
 {
-    let i = parts::ROW + 2 * tools::wide(owner);
-    let from = first[i + 1];
-    let to = second[i + 1];
+    let desk = tools::wide(owner);
+    let phase = parts::ROW + parts::phase_spot(desk);
+    let clock = parts::ROW + parts::clock_spot(desk);
+    let from = first[clock];
+    let to = second[clock];
     let p = setup.phases as u8;
     let n = setup.ahead as u8;
-    let first_phase = first[i];
-    let second_phase = second[i];
+    let first_phase = first[phase];
+    let second_phase = second[phase];
     let r = ring::lag(second_phase, first_phase, p);
     if r < n {
         return Way {
@@ -232,7 +237,7 @@ fn owners_of(setup: Setup, first: &[u8], second: &[u8]) -> Owners
 
 // Before, off the book.
 pub fn before(setup: Setup, first: &[u8], second: &[u8]) -> Told
-    ensures { λ r. ⌜ toldSays r ≡ beforeOff setup (readStamp setup (now (first .entry))) (readStamp setup (now (second .entry))) ⌝ }
+    ensures { λ r. ⌜ toldSays r ≡ beforeOf setup (now (first .entry)) (now (second .entry)) ⌝ }
 {
     let owners = owners_of(setup, first, second);
     match owners {
@@ -246,7 +251,7 @@ pub fn before(setup: Setup, first: &[u8], second: &[u8]) -> Told
 
 // Compare, off the book.
 pub fn compare(setup: Setup, first: &[u8], second: &[u8]) -> Compared
-    ensures { λ r. ⌜ comparedSays r ≡ compareOff setup (readStamp setup (now (first .entry))) (readStamp setup (now (second .entry))) ⌝ }
+    ensures { λ r. ⌜ comparedSays r ≡ compareOf setup (now (first .entry)) (now (second .entry)) ⌝ }
 {
     let owners = owners_of(setup, first, second);
     match owners {

@@ -32,10 +32,10 @@ pub const RECORDS: usize = SHELF + PLACES;
 pub const BOOK_BYTES: usize = HEAD_BYTES + RECORDS * RECORD_BYTES;
 
 // A record is a mark of two bytes, two tags and a row.
-const TAG_A: usize = 2;
+pub const TAG_A: usize = 2;
 
 // A mail place's addressee; filler in a seat and a slot.
-const TAG_B: usize = 3;
+pub const TAG_B: usize = 3;
 
 pub const ROW: usize = 4;
 

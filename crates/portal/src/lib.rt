@@ -3,7 +3,7 @@ ghost use mathlib.Core.Path.{_≡_};
 ghost use mathlib.Core.Bool.{true};
 ghost use Prim.Native.Nat.{_<_, _≤_};
 ghost use lib.ListN.{length};
-ghost use Rattle.tools.specs.Lists.{byte, tab, Filled};
+ghost use Rattle.tools.specs.Lists.{tab, Filled};
 ghost use Rattle.rules.specs.Setups.{permits};
 ghost use Rattle.rules.specs.Model;
 ghost use Rattle.rules.specs.Model.{refusal};
@@ -12,7 +12,7 @@ ghost use Rattle.rules.specs.Calls.{on, freshBook};
 ghost use Rattle.rules.specs.Replies.{stampedSays, postedSays, keptSays, toldSays, comparedSays, blank};
 ghost use Rattle.rules.specs.Replies.{Beside, BesidePost};
 ghost use Rattle.book.specs.Layout;
-ghost use Rattle.book.specs.Layout.{bookSize, records, shelfFrom, seats, headSize, headByte};
+ghost use Rattle.book.specs.Layout.{bookSize, records, shelfFrom, seats, headSize, headByte, setupOf};
 ghost use Rattle.book.specs.Codec.{encode};
 ghost use Rattle.book.specs.Answers.{answerTo, bookAfter, partOf, targetAfter};
 ghost use Rattle.refusals.specs.First.{usedNumber};
@@ -28,7 +28,7 @@ use rules::Told;
 
 // The byte of D in a book of any length, 0 in one too short to have it: who prints a stamp asks it before the call.
 pub fn desks_in(book: &[u8]) -> u8
-    ensures { λ r. ⌜ r ≡ byte (now (book .entry)) 2 ⌝ }
+    ensures { λ r. ⌜ r ≡ setupOf (now (book .entry)) .desks ⌝ }
 {
     if book.len() <= parts::DESKS_AT {
         return 0;

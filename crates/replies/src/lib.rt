@@ -42,7 +42,7 @@ fn put_pairs(out: &mut [u8], at: usize, desks: u8, row: [u8; 16]) -> usize
     let mut a = at;
     let mut j: usize = 0;
     while j < desks as usize {
-        a = put_pair(out, a, row[2 * j], row[2 * j + 1]);
+        a = put_pair(out, a, row[parts::phase_spot(j)], row[parts::clock_spot(j)]);
         j += 1;
     }
     a

@@ -14,16 +14,16 @@ use Rattle.tools.specs.Lists.{byte}
 use Rattle.tools.proofs.Tests.{eq-or-ne}
 use Rattle.tools.proofs.Lists.{tab-at, is-tab, tab-same}
 use Rattle.rules.specs.Model.{Row, zeros}
-use Rattle.rules.specs.Replies.{rowByte, rowBytes, rowOf}
+use Rattle.rules.specs.Replies.{phaseSpot, clockSpot, rowByte, rowBytes, rowOf}
 
-pub row-phase : (r : Row) (j : ℕ) → rowByte r (2 * j) ≡ r j .phase
+pub row-phase : (r : Row) (j : ℕ) → rowByte r (phaseSpot j) ≡ r j .phase
 unfolding rowByte
 row-phase r j =
     let e : (2 * j) % 2 ≡ 0 = omega arith in
     let d : 2 * j / 2 ≡ j = omega arith in
     rw (eq-eqb _ _ e, d)
 
-pub row-clock : (r : Row) (j : ℕ) → rowByte r (1 + 2 * j) ≡ r j .clock
+pub row-clock : (r : Row) (j : ℕ) → rowByte r (clockSpot j) ≡ r j .clock
 unfolding rowByte
 row-clock r j =
     let e : (1 + 2 * j) % 2 ≡ 0 → ⊥ = omega arith in
@@ -48,12 +48,11 @@ unfolding rowBytes
 row-of-bytes r e = fun-ext (λ k. go k (ltb k 8) refl)
   where
     go : (k : ℕ) (t : Bool) → ltb k 8 ≡ t
-        → pick t (record { phase = byte (rowBytes r) (2 * k); clock = byte (rowBytes r) (2 * k + 1) }) (zeros k) ≡ r k
+        → pick t (record { phase = byte (rowBytes r) (phaseSpot k); clock = byte (rowBytes r) (clockSpot k) }) (zeros k) ≡ r k
     go k true l =
         let m = ltb-true k 8 l in
-        let c : 2 * k + 1 ≡ 1 + 2 * k = omega arith in
-        let p = tab-at 16 (rowByte r) (2 * k) (omega arith) ∙ row-phase r k in
-        let q = tab-at 16 (rowByte r) (2 * k + 1) (omega arith) ∙ ap (rowByte r) c ∙ row-clock r k in
+        let p = tab-at 16 (rowByte r) (phaseSpot k) (omega arith) ∙ row-phase r k in
+        let q = tab-at 16 (rowByte r) (clockSpot k) (omega arith) ∙ row-clock r k in
         λ i. record { phase = p i; clock = q i }
     go k false l = sym (e k (ltb-false k 8 l))
 
@@ -66,12 +65,11 @@ bytes-of-row l n = sym (is-tab 16 (rowByte (rowOf l)) l n there)
     there i m =
         let k = lt-ltb (i / 2) 8 (omega arith) in
         ⊎-elim (λ (e : i % 2 ≡ 0).
-        let q : i ≡ 2 * (i / 2) = omega arith in
+        let q : i ≡ phaseSpot (i / 2) = omega arith in
         ap (byte l) q ∙ sym (ap (rowByte (rowOf l)) q ∙ row-phase (rowOf l) (i / 2) ∙ rw k))
         (λ (e : i % 2 ≡ 0 → ⊥).
-        let q : i ≡ 1 + 2 * (i / 2) = omega arith in
-        let c : 1 + 2 * (i / 2) ≡ 2 * (i / 2) + 1 = omega arith in
-        ap (byte l) (q ∙ c) ∙ sym (ap (rowByte (rowOf l)) q ∙ row-clock (rowOf l) (i / 2) ∙ rw k)) (eq-or-ne (i % 2) 0)
+        let q : i ≡ clockSpot (i / 2) = omega arith in
+        ap (byte l) q ∙ sym (ap (rowByte (rowOf l)) q ∙ row-clock (rowOf l) (i / 2) ∙ rw k)) (eq-or-ne (i % 2) 0)
 
 -- so sixteen bytes are fixed by the row that they tell
 pub row-once : (l l′ : List ℕ) → length l ≡ 16 → length l′ ≡ 16 → rowOf l ≡ rowOf l′ → l ≡ l′

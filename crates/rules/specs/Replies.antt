@@ -1,13 +1,16 @@
 -- What the code's answers say: the paper's number and value for each case of each type of answer.
 -- Assumes nothing.
---   rowByte r c     byte c of the sixteen bytes of a row: each desk's phase, then its clock
---   rowBytes r      the sixteen bytes
---   rowOf l         the row that sixteen bytes tell: eight desks, zero beyond
+--   rowSize         how many bytes a row has: each desk's phase, then its clock
+--   phaseSpot j, clockSpot j   which of them is the phase of desk j, and which the clock
+--   rowByte r c     byte c of the bytes of a row
+--   rowBytes r      the bytes of a row
+--   rowOf l         the row that such bytes tell: a pair for each seat's desk, zero beyond
 --   stampedSays     what the answer to local, receive or reset says
 --   postedSays      what the answer to send says, its stamp beside it
 --   keptSays        what the answer to keep says
 --   toldSays        what the answer to before says
 --   comparedSays    what the answer to compare says
+--   blank           owner 0 and sixteen zeros
 --   Beside n s      the stamp s beside the number n: blank where n is a refusal
 --   BesidePost p s  the stamp s beside the answer p to send: blank where it is a refusal
 use mathlib.Core.Path.{_≡_}
@@ -28,16 +31,25 @@ use Rattle.rules.specs.declared.Told.{Told}
 use Rattle.rules.specs.declared.Told.the-variants as Tells
 use Rattle.rules.specs.declared.Compared.{Compared}
 use Rattle.rules.specs.declared.Compared.the-variants as Compares
-use Rattle.rules.specs.Model.{Row, stamp, sent, slot, says, relates, Answer, refusal, accepted, zeros}
+use Rattle.rules.specs.Model.{seats, Row, stamp, sent, slot, says, relates, Answer, refusal, accepted, zeros}
+
+abbrev pub rowSize : ℕ
+rowSize = 16
+
+abbrev pub phaseSpot : ℕ → ℕ
+phaseSpot j = 2 * j
+
+abbrev pub clockSpot : ℕ → ℕ
+clockSpot j = 1 + 2 * j
 
 unfoldable pub rowByte : Row → ℕ → ℕ
 rowByte r c = pick (eqb (c % 2) 0) (r (c / 2) .phase) (r (c / 2) .clock)
 
 unfoldable pub rowBytes : Row → List ℕ
-rowBytes r = tab 0 16 (rowByte r)
+rowBytes r = tab 0 rowSize (rowByte r)
 
 abbrev pub rowOf : List ℕ → Row
-rowOf l k = pick (ltb k 8) (record { phase = byte l (2 * k); clock = byte l (2 * k + 1) }) (zeros k)
+rowOf l k = pick (ltb k seats) (record { phase = byte l (phaseSpot k); clock = byte l (clockSpot k) }) (zeros k)
 
 unfoldable pub stampedSays : Stamped → Answer
 stampedSays r =
@@ -61,7 +73,7 @@ comparedSays (Compares.Is r) = accepted (relates r)
 comparedSays (Compares.Refused n) = refusal n
 
 abbrev pub blank : Stamp
-blank = record { owner = 0; row = replicate 16 0 }
+blank = record { owner = 0; row = replicate rowSize 0 }
 
 abbrev pub Beside : ℕ → Stamp → Type 0
 Beside zero s = Unit {0}

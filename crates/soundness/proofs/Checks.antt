@@ -6,7 +6,6 @@ use mathlib.Core.Bool.{Bool, true, false, _&&_, true≢false}
 use mathlib.Core.List.{List, [], _∷_}
 use mathlib.Core.Logic.{⊎-elim}
 use native.Mathlib.Omega.{arith}
-use native.Mathlib.Numerals.{add-one}
 use lib.Dec.{ltb, leb, eqb}
 use lib.ListN.{length, set, length-set}
 use lib.Seq.{getD-set-same, getD-set-other}
@@ -21,15 +20,6 @@ use Rattle.book.specs.Layout.{tagASpot, tagBSpot, records, shelfFrom, rowSpot, 
 use Rattle.book.specs.Sound.{pairOk, columnOk, rowOk, columnZero, rowZero}
 use Rattle.book.specs.Sound.{seatRest, seatNear, seatOk, mailOk, slotOk, recordOk, recordSound}
 use Rattle.soundness.specs.Checks.{countOf, phasesFrom, ownFrom, clocksFrom, phasesIn, ownIn, clocksIn, Limits, ownOk, Ready}
-
--- one test more
-pub and-more : (p : ℕ → Bool) (n : ℕ) (ok t : Bool) → ok ≡ allBelow n p → t ≡ p n → (ok && t) ≡ allBelow (n + 1) p
-unfolding allBelow
-and-more p n ok t a h = rw (add-one, a, h)
-
-pub all-start : (p : ℕ → Bool) → true ≡ allBelow 0 p
-unfolding allBelow
-all-start p = refl
 
 and-true : (a : Bool) → (a && true) ≡ a
 and-true true = refl

@@ -6,7 +6,7 @@ ghost use lib.Dec.{leb, ltb};
 ghost use lib.ListN.{length};
 ghost use Rattle.ring.specs.Phases.{lagOf};
 ghost use Rattle.tools.specs.Tests.{pick, allOf, allBelow};
-ghost use Rattle.book.specs.Layout.{bookSize, records, shelfFrom, mailFrom, seats, fields};
+ghost use Rattle.book.specs.Layout.{bookSize, spareSize, records, shelfFrom, mailFrom, seats, fields};
 ghost use Rattle.book.specs.Sound;
 ghost use Rattle.book.specs.Sound.{columnZero, rowOk, rowZero, seatRest, seatNear, recordOk, spareZero, headOk, recordSound};
 ghost use Rattle.soundness.specs.Checks.{countOf, Limits, ownOk, Ready, Used};
@@ -21,12 +21,12 @@ const OWN: usize = parts::SEATS;
 // Then how many clock values each has.
 const CLOCKS: usize = 2 * parts::SEATS;
 
-// How many phases, or clock values, desk j has, of d desks with n each. Where there is no desk 0 alone is in range, so one.
-fn count_of(d: usize, n: u8, j: usize) -> u8
-    ensures { λ r. ⌜ r ≡ countOf d n j ⌝ }
+// How many phases, or clock values, a desk has where each has that count. Where there is no desk 0 alone is in range, so one.
+fn count_of(desks: usize, count: u8, desk: usize) -> u8
+    ensures { λ r. ⌜ r ≡ countOf desks count desk ⌝ }
 {
-    if j < d {
-        return n;
+    if desk < desks {
+        return count;
     }
     1
 }
@@ -60,22 +60,23 @@ fn own_ok(limits: &[u8; 24]) -> bool
     ok
 }
 
-// By how much own is moved on, so that it does not stand below v: not at all, or once round the ring.
-fn lap(own: u8, v: u8, p: u8) -> u8
-    ensures { λ r. ⌜ r ≡ pick (leb v own) 0 p ⌝ }
+// By how much own is moved on, so that it does not stand below the phase: not at all, or once round the ring.
+fn lap(own: u8, phase: u8, phases: u8) -> u8
+    ensures { λ r. ⌜ r ≡ pick (leb phase own) 0 phases ⌝ }
 {
-    if v <= own {
+    if phase <= own {
         return 0;
     }
-    p
+    phases
 }
 
 // The lag is compared as a sum on both sides: no remainder, no difference that could wrap, no branch.
-fn pair_ok(own: u8, p: u8, l: u8, bound: usize, v: u8, t: u8) -> bool
-    requires { ⌜ (own < p) × (bound ≤ 510) ⌝ }
-    ensures { λ r. ⌜ r ≡ allOf (ltb v p ∷ ltb t l ∷ leb (lagOf p own v) bound ∷ []) ⌝ }
+fn pair_ok(own: u8, phases: u8, clocks: u8, bound: usize, phase: u8, clock: u8) -> bool
+    requires { ⌜ (own < phases) × (bound ≤ 510) ⌝ }
+    ensures { λ r. ⌜ r ≡ allOf (ltb phase phases ∷ ltb clock clocks ∷ leb (lagOf phases own phase) bound ∷ []) ⌝ }
 {
-    (v < p) & ((t < l) & (tools::wide(own) + tools::wide(lap(own, v, p)) <= tools::wide(v) + bound))
+    let moved = tools::wide(own) + tools::wide(lap(own, phase, phases));
+    (phase < phases) & ((clock < clocks) & (moved <= tools::wide(phase) + bound))
 }
 
 // No pair ends the loop early: so all eight are compared at once. The limits are lent: a copy for each record would be waited for.
@@ -87,16 +88,16 @@ fn row_ok(book: &[u8], limits: &[u8; 24], bound: usize, k: usize) -> bool
     let mut ok = true;
     let mut j: usize = 0;
     while j < parts::SEATS {
-        let v = parts::phase_at(book, k, j);
-        let t = parts::clock_at(book, k, j);
+        let phase = parts::phase_at(book, k, j);
+        let clock = parts::clock_at(book, k, j);
         ok = ok
             & pair_ok(
                 limits[OWN + j],
                 limits[PHASES + j],
                 limits[CLOCKS + j],
                 bound,
-                v,
-                t,
+                phase,
+                clock,
             );
         j += 1;
     }
@@ -242,7 +243,7 @@ fn records_sound(book: &[u8]) -> bool
 
 fn spare_zero(book: &[u8]) -> bool
     requires { ⌜ length (now book) ≡ bookSize ⌝ }
-    ensures { λ r. ⌜ r ≡ allBelow 7 (spareZero (now (book .entry))) ⌝ }
+    ensures { λ r. ⌜ r ≡ allBelow spareSize (spareZero (now (book .entry))) ⌝ }
 {
     let mut ok = true;
     let mut i: usize = 0;

@@ -1,8 +1,9 @@
 -- `labels::pair_reads` meets its contract.
 -- Assumes nothing.
-use Prim.Native.Nat.{_+_, _*_}
+use Prim.Native.Nat.{_+_}
 use native.Mathlib.Omega.{arith}
 use borrow.Author.Needs.{needs}
+use Rattle.book.specs.Layout.{rowSpot, phaseSpot, clockSpot}
 use Rattle.labels.proofs.Records.{label-pair}
 use Rattle.labels.proofs.Limits.{pair-up-to}
 use Rattle.labels.proofs.pair_reads.Statement.{statement}
@@ -10,14 +11,16 @@ use Rattle.labels.proofs.pair_reads.Tie as tie
 
 returns : tie.Need-returns
 returns c X h =
-    let a = c .before .before .before .before .args in
-    let byte = c .before .shared-slice-known2 .given in
-    rw (label-pair (a .bytes .now) (a .j) (omega arith))
-    (pair-up-to X _ h (a .j) (omega arith) _ _ (omega (arith, byte (4 + 2 * a .j))) (omega (arith, byte (4 + (2 * a .j + 1)))))
+    let a = c .before .before .before .before .before .before .before .args in
+    let k = c .before .before .before .before in
+    let j = a .j in
+    let byte = c .before .shared-slice-known3 .given in
+    rw (label-pair (a .bytes .now) j (omega arith), k .before .phase-spot .ensures, k .clock-spot .ensures)
+    (pair-up-to X _ h j (omega arith) _ _ (omega (arith, byte (rowSpot + phaseSpot j))) (omega (arith, byte (rowSpot + clockSpot j))))
 
 pub pair-reads-spec : {M : Type 1} → statement M
 pair-reads-spec =
     tie.close
     (tie.spec
-    (λ c. search needs) (λ c. search needs) (λ c. search needs) (λ c. search needs) (λ c. search needs) (λ c. search needs)
-    (λ c. search needs) (λ c. search needs) (λ c. search needs) (λ c. search needs) (λ c. search needs) (λ c. search needs) returns)
+    (λ c κs. search needs) (λ c κs. search needs) (λ c. search needs) (λ c. search needs) (λ c. search needs) (λ c. search needs)
+    (λ c. search needs) (λ c. search needs) returns)

@@ -8,12 +8,12 @@ use lib.Dec.{ltb}
 use borrow.Author.Tests.{eq-eqb, ne-eqb}
 use borrow.Author.Needs.{needs}
 use Rattle.tools.specs.Tests.{allOf, allBelow}
-use Rattle.tools.proofs.Tests.{not-each}
+use Rattle.tools.proofs.Tests.{not-each, and-none, and-more}
 use Rattle.rules.specs.declared.Setup.{Setup}
 use Rattle.rules.specs.Replies.{rowBytes}
 use Rattle.book.specs.Stamps.{pairReads, labelOf}
 use Rattle.labels.specs.Limits.{lastRow, rowReads}
-use Rattle.labels.proofs.Limits.{lasts-held, reads-none, reads-more}
+use Rattle.labels.proofs.Limits.{lasts-held}
 use Rattle.labels.proofs.row_reads.Statement.{statement}
 use Rattle.labels.proofs.row_reads.Tie as tie
 
@@ -30,13 +30,13 @@ unfolding rowReads
 returns c = sym (not-each _ 0 (ne-eqb _ _ (c .if1 .taken)))
 
 loop-holds : tie.Need-loop-holds Inv-loop μ-loop
-loop-holds c = (search needs, λ X l s. reads-none _ _)
+loop-holds c = (search needs, λ X l s. and-none _ _)
 
 loop-again : tie.Need-loop-again Inv-loop μ-loop
 loop-again c =
     let h = c .before .before .loop in (
       omega arith,
-      λ X l s. reads-more _ (h .j) _ _ _ (h .inv .1 X l s) (λ t. c .pair-reads .ensures X (lasts-held X _ l (sym s ∙ t))),
+      λ X l s. and-more _ _ (h .j) _ _ (h .inv .1 X l s) (λ t. c .pair-reads .ensures X (lasts-held X _ l (sym s ∙ t))),
     )
 
 returns-2 : tie.Need-returns-2 Inv-loop μ-loop

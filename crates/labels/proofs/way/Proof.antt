@@ -1,9 +1,11 @@
 -- `labels::way` meets its contract.
 -- Assumes nothing.
 use native.Mathlib.Omega.{arith}
-use Prim.Native.Nat.{_+_, _*_}
+use Prim.Native.Nat.{_+_}
+use mathlib.Core.Path.{_≡_}
 use Rattle.tools.specs.Lists.{byte}
 use Rattle.ring.proofs.Ring.{lag-below}
+use Rattle.book.specs.Layout.{rowSpot, phaseSpot, clockSpot}
 use Rattle.labels.proofs.Answered.{Ready, ready, way-ahead, way-back}
 use borrow.Author.Needs.{needs}
 use Rattle.labels.proofs.way.Statement.{statement}
@@ -13,55 +15,73 @@ use Rattle.labels.proofs.way.Tie as tie
 asks : (c : tie.Start) → Ready (c .args .setup) (c .args .first .now) (c .args .second .now) (c .args .owner)
 asks c = ready _ _ _ _ (c .pre .0) (c .pre .1)
 
+phase-spot-requires : tie.Need-phase-spot-requires
+phase-spot-requires c κs = let r = asks (c .before .before .before) in omega (arith, c .wide .ensures)
+
+clock-spot-requires : tie.Need-clock-spot-requires
+clock-spot-requires c κs = let r = asks (c .before .before .before .before) in omega (arith, c .before .wide .ensures)
+
 shared-slice-read-from : tie.Need-shared-slice-read-from
-shared-slice-read-from c = let r = asks (c .before .before .before .before) in omega arith
+shared-slice-read-from c = let r = asks (c .before .before .before .before .before .before) in omega arith
 
 shared-slice-read-to : tie.Need-shared-slice-read-to
-shared-slice-read-to c = let r = asks (c .before .before .before .before .before) in omega arith
+shared-slice-read-to c = let r = asks (c .before .before .before .before .before .before .before) in omega arith
 
 cast-p : tie.Need-cast-p
-cast-p c = let r = asks (c .before .before .before .before .before .before) in omega arith
+cast-p c = let r = asks (c .before .before .before .before .before .before .before .before) in omega arith
 
 cast-n : tie.Need-cast-n
-cast-n c = let r = asks (c .before .before .before .before .before .before .before) in omega arith
+cast-n c = let r = asks (c .before .before .before .before .before .before .before .before .before) in omega arith
 
 shared-slice-read-first-phase : tie.Need-shared-slice-read-first-phase
-shared-slice-read-first-phase c = let r = asks (c .before .before .before .before .before .before .before .before) in omega arith
+shared-slice-read-first-phase c =
+    let r = asks (c .before .before .before .before .before .before .before .before .before .before) in omega arith
 
 shared-slice-read-second-phase : tie.Need-shared-slice-read-second-phase
-shared-slice-read-second-phase c = let r = asks (c .before .before .before .before .before .before .before .before .before) in omega arith
+shared-slice-read-second-phase c =
+    let r = asks (c .before .before .before .before .before .before .before .before .before .before .before) in omega arith
 
 lag-requires : tie.Need-lag-requires
 lag-requires c κs =
-    let r = asks (c .before .before .before .before .before .before .before .before .before) in
-    rw (c .before .before .before .before .before .before .wide .ensures) (r .new, r .old)
+    let w = c .before .before .before .before .before .before .before in
+    let r = asks (w .before .before .before .before) in
+    rw (w .phase-spot .ensures, w .before .wide .ensures) (r .second, r .first)
 
--- what came in
+-- what came in, where its clock was looked for
+abbrev seen : tie.After-lag → tie.After-clock-spot
+seen c = c .before .before .before .before .before .before .before
+
 abbrev entry : tie.After-lag → tie.Start
-entry c = c .before .before .before .before .before .before .before .before .before .before
+entry c = seen c .before .before .before .before .before
+
+phase-stands : (c : tie.After-lag) → 4 + seen c .before .phase-spot .result ≡ rowSpot + phaseSpot (entry c .args .owner)
+phase-stands c = omega (arith, seen c .before .phase-spot .ensures, seen c .before .before .wide .ensures)
+
+clock-stands : (c : tie.After-lag) → 4 + seen c .clock-spot .result ≡ rowSpot + clockSpot (entry c .args .owner)
+clock-stands c = omega (arith, seen c .clock-spot .ensures, seen c .before .before .wide .ensures)
 
 returns : tie.Need-returns
 returns c =
     let s = entry (c .before) in
-    let n = c .before .before .before .before .before .before .before .before .wide in
-    way-ahead _ _ _ _ (s .pre .0) (s .pre .1) (n .result) (n .ensures) _ (c .before .lag .ensures) (omega arith)
+    way-ahead _ _ _ _ (s .pre .0) (s .pre .1) _ _ (phase-stands (c .before)) (clock-stands (c .before)) _ (c .before .lag .ensures)
+    (omega arith)
 
-sub-t16 : tie.Need-sub-t16
-sub-t16 c =
+sub-t17 : tie.Need-sub-t17
+sub-t17 c =
     let a = entry (c .before) .args in
     let r = asks (entry (c .before)) in
-    let i = 4 + 2 * c .before .before .before .before .before .before .before .before .wide .result in
+    let i = rowSpot + seen (c .before) .before .phase-spot .result in
     omega (arith, lag-below (a .setup .phases) (byte (a .second .now) i) (byte (a .first .now) i) (omega arith), c .before .lag .ensures)
 
 returns-2 : tie.Need-returns-2
 returns-2 c =
     let s = entry (c .before) in
-    let n = c .before .before .before .before .before .before .before .before .wide in
-    way-back _ _ _ _ (s .pre .0) (s .pre .1) (n .result) (n .ensures) _ (c .before .lag .ensures) (omega arith)
+    way-back _ _ _ _ (s .pre .0) (s .pre .1) _ _ (phase-stands (c .before)) (clock-stands (c .before)) _ (c .before .lag .ensures)
+    (omega arith)
 
 pub way-spec : {M : Type 1} → statement M
 way-spec =
     tie.close
     (tie.spec
-    (λ c κs. search needs) (λ c. search needs) (λ c. search needs) (λ c. search needs) shared-slice-read-from (λ c. search needs)
-    shared-slice-read-to cast-p cast-n shared-slice-read-first-phase shared-slice-read-second-phase lag-requires returns sub-t16 returns-2)
+    (λ c κs. search needs) phase-spot-requires (λ c. search needs) clock-spot-requires (λ c. search needs) shared-slice-read-from
+    shared-slice-read-to cast-p cast-n shared-slice-read-first-phase shared-slice-read-second-phase lag-requires returns sub-t17 returns-2)

@@ -9,7 +9,7 @@ use native.Mathlib.Numerals.{add-one}
 use borrow.Author.Tests.{lt-ltb}
 use borrow.Author.Needs.{needs}
 use native.Mathlib.Omega.{arith}
-use mathlib.Core.Path.{_≡_}
+use mathlib.Core.Path.{_≡_, sym}
 use Prim.Native.Nat.{_+_, _*_, _-_, _≤_}
 use Rattle.replies.proofs.put_pairs.Statement.{statement}
 use Rattle.replies.proofs.put_pairs.Tie as tie
@@ -33,13 +33,17 @@ unfolding pairs
 loop-holds c = (search needs, none (c .before .args .out .now) (c .before .args .at) (omega arith))
 
 put-pair-requires : tie.Need-put-pair-requires Inv-loop μ-loop
-put-pair-requires c κs = omega (arith, room (c .before .before))
+put-pair-requires c κs = omega (arith, room (c .before .before .before .before))
 
 loop-again : tie.Need-loop-again Inv-loop μ-loop
 unfolding pairs
 loop-again c =
-    let h = c .before .before .before .before .before .loop in
-    (omega arith, rw (add-one, lt-ltb (h .j) 8 (omega arith)) (then (h .inv .1) (c .before .before .put-pair .ensures)))
+    let k = c .before .before .before in
+    let h = k .before .before .before .before .loop in (
+      omega arith,
+      rw (add-one, lt-ltb (h .j) 8 (omega arith), sym (k .clock-spot .ensures), sym (k .before .phase-spot .ensures))
+          (then (h .inv .1) (c .before .before .put-pair .ensures)),
+    )
 
 same-length : tie.Need-same-length Inv-loop μ-loop
 same-length c = wrote-length (c .before .loop .inv .1)
@@ -53,5 +57,5 @@ pub put-pairs-spec : {M : Type 1} → statement M
 put-pairs-spec =
     tie.close
     (tie.spec
-    Inv-loop μ-loop loop-holds (λ c. omega arith) (λ c. omega arith) (λ c. omega arith) (λ c. omega arith) (λ c. omega arith)
+    Inv-loop μ-loop loop-holds (λ c κs. omega arith) (λ c. omega arith) (λ c κs. omega arith) (λ c. omega arith)
     put-pair-requires (λ c. omega arith) (λ c. omega arith) loop-again same-length returns)

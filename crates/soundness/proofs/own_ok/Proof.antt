@@ -1,11 +1,12 @@
 -- `soundness::own_ok` meets its contract.
 -- Assumes nothing.
 use Prim.Native.Nat.{_≤_, _-_}
+use mathlib.Core.Bool.{true}
 use mathlib.Core.Path.{_≡_, refl}
 use native.Mathlib.Omega.{arith}
 use borrow.Author.Needs.{needs}
 use Rattle.tools.specs.Tests.{allBelow}
-use Rattle.soundness.proofs.Checks.{all-start, and-more}
+use Rattle.tools.proofs.Tests.{and-none, and-more}
 use lib.Dec.{ltb}
 use Rattle.soundness.specs.Checks.{phasesIn, ownIn, ownOk}
 use Rattle.soundness.proofs.own_ok.Statement.{statement}
@@ -18,10 +19,10 @@ abbrev μ-loop : tie.MeasureT-loop
 μ-loop limits ok₀ j₀ ok j = 8 - j
 
 loop-holds : tie.Need-loop-holds Inv-loop μ-loop
-loop-holds c = (search needs, all-start _)
+loop-holds c = (search needs, and-none true _)
 
 loop-again : tie.Need-loop-again Inv-loop μ-loop
-loop-again c = let h = c .before .before .before .loop in (omega arith, and-more _ (h .j) _ _ (h .inv .1) refl)
+loop-again c = let h = c .before .before .before .loop in (omega arith, and-more true _ (h .j) _ _ (h .inv .1) (λ _. refl))
 
 returns : tie.Need-returns Inv-loop μ-loop
 unfolding ownOk

@@ -11,7 +11,7 @@ returns : tie.Need-returns
 returns c =
     let a = c .before .before .before .before .args in
     rw (c .before .before .before .wide .ensures, c .before .wide2 .ensures, c .before .before .lap .ensures, c .wide3 .ensures)
-    (pair-sums (a .p) (a .own) (a .v) (a .bound) (ltb (a .t) (a .l)) (omega arith))
+    (pair-sums (a .phases) (a .own) (a .phase) (a .bound) (ltb (a .clock) (a .clocks)) (omega arith))
 
 pub pair-ok-spec : {M : Type 1} → statement M
 pair-ok-spec =

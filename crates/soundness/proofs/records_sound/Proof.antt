@@ -1,6 +1,7 @@
 -- `soundness::records_sound` meets its contract.
 -- Assumes nothing.
 use Prim.Native.Nat.{_≤_, _-_}
+use mathlib.Core.Bool.{true}
 use mathlib.Core.Path.{_≡_, sym, _∙_}
 use native.Mathlib.Omega.{arith}
 use borrow.Author.Tests.{not-true, not-false}
@@ -8,7 +9,8 @@ use borrow.Author.Needs.{needs}
 use Rattle.tools.specs.Tests.{allBelow}
 use Rattle.book.specs.Sound.{recordSound}
 use Rattle.book.specs.Layout.{records}
-use Rattle.soundness.proofs.Checks.{all-start, and-more, own-off}
+use Rattle.tools.proofs.Tests.{and-none, and-more}
+use Rattle.soundness.proofs.Checks.{own-off}
 use Rattle.soundness.proofs.records_sound.Statement.{statement}
 use Rattle.soundness.proofs.records_sound.Tie as tie
 
@@ -24,7 +26,7 @@ returns c =
     (own-off _ _ (c .before .before .before .limits-of .ensures) (sym (c .before .own-ok .ensures) ∙ not-true _ (c .if1 .taken)))
 
 loop-holds : tie.Need-loop-holds Inv-loop μ-loop
-loop-holds c = (search needs, all-start _)
+loop-holds c = (search needs, and-none true _)
 
 record-sound-requires : tie.Need-record-sound-requires Inv-loop μ-loop
 record-sound-requires c κs =
@@ -40,7 +42,7 @@ record-sound-requires c κs =
 loop-again : tie.Need-loop-again Inv-loop μ-loop
 loop-again c =
     let h = c .before .before .before .loop in
-    (omega arith, and-more _ (h .k) _ _ (h .inv .1) (c .record-sound .ensures))
+    (omega arith, and-more true _ (h .k) _ _ (h .inv .1) (λ _. c .record-sound .ensures))
 
 returns-2 : tie.Need-returns-2 Inv-loop μ-loop
 returns-2 c = let h = c .before .loop in let e : h .k ≡ records = omega arith in rw e at (h .inv .1)

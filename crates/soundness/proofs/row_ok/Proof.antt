@@ -1,11 +1,12 @@
 -- `soundness::row_ok` meets its contract.
 -- Assumes nothing.
 use Prim.Native.Nat.{_≤_, _-_}
+use mathlib.Core.Bool.{true}
 use mathlib.Core.Path.{_≡_}
 use native.Mathlib.Omega.{arith}
 use borrow.Author.Needs.{needs}
 use Rattle.tools.specs.Tests.{allBelow}
-use Rattle.soundness.proofs.Checks.{all-start, and-more}
+use Rattle.tools.proofs.Tests.{and-none, and-more}
 use Rattle.book.specs.Layout.{fields}
 use Rattle.book.specs.Sound.{columnOk, rowOk}
 use Rattle.soundness.proofs.Checks.{column-is, own-below}
@@ -19,7 +20,7 @@ abbrev μ-loop : tie.MeasureT-loop
 μ-loop book limits bound k ok₀ j₀ ok j = 8 - j
 
 loop-holds : tie.Need-loop-holds Inv-loop μ-loop
-loop-holds c = (search needs, all-start _)
+loop-holds c = (search needs, and-none true _)
 
 pair-ok-requires : tie.Need-pair-ok-requires Inv-loop μ-loop
 pair-ok-requires c κs =
@@ -36,7 +37,7 @@ loop-again c =
     let e =
     column-is (s .args .book .now) (s .args .limits .now) (s .args .bound) (s .args .k) (h .j) _ _ _ (s .pre .0) (omega arith) v t
     (c .pair-ok .ensures) in
-    (omega arith, and-more _ (h .j) _ _ (h .inv .1) e)
+    (omega arith, and-more true _ (h .j) _ _ (h .inv .1) (λ _. e))
 
 returns : tie.Need-returns Inv-loop μ-loop
 unfolding rowOk

@@ -1,11 +1,12 @@
 -- `soundness::row_zero` meets its contract.
 -- Assumes nothing.
 use Prim.Native.Nat.{_≤_, _-_}
+use mathlib.Core.Bool.{true}
 use mathlib.Core.Path.{_≡_}
 use native.Mathlib.Omega.{arith}
 use borrow.Author.Needs.{needs}
 use Rattle.tools.specs.Tests.{allBelow}
-use Rattle.soundness.proofs.Checks.{all-start, and-more}
+use Rattle.tools.proofs.Tests.{and-none, and-more}
 use Rattle.book.specs.Layout.{fields}
 use Rattle.book.specs.Sound.{columnZero, rowZero}
 use Rattle.soundness.proofs.row_zero.Statement.{statement}
@@ -18,10 +19,10 @@ abbrev μ-loop : tie.MeasureT-loop
 μ-loop book k ok₀ j₀ ok j = 8 - j
 
 loop-holds : tie.Need-loop-holds Inv-loop μ-loop
-loop-holds c = (search needs, all-start _)
+loop-holds c = (search needs, and-none true _)
 
 loop-again : tie.Need-loop-again Inv-loop μ-loop
-loop-again c = let h = c .before .before .loop in (omega arith, and-more _ (h .j) _ _ (h .inv .1) (c .column-zero .ensures))
+loop-again c = let h = c .before .before .loop in (omega arith, and-more true _ (h .j) _ _ (h .inv .1) (λ _. c .column-zero .ensures))
 
 returns : tie.Need-returns Inv-loop μ-loop
 unfolding rowZero
