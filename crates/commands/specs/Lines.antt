@@ -3,16 +3,16 @@
 --   shaped l w n    the line is the word w and n numbers
 --   Verb            a word, how many numbers follow it, and the command that they make
 --   questions       the verbs that ask about two slots
---   filings         those that fill or free a slot or a place, then the questions
---   events          those of the four events, then the filings
---   verbs           all verbs, in the order of document 01: start, then the events
+--   filings         those that fill or free a slot or a place
+--   events          those of the four events
+--   verbs           all verbs, in the order of document 01: start first
 --   choose vs l     the command of the first verb whose line l is; `Bad` where there is none
 --   parseOf l       the command of a line; `Bad` for a line of any other shape
 --   setupFrom ns    the setup that seven numbers make
 --   callOf c        the call that a command asks for; none for `Bad`
 use Prim.Native.Nat.{ℕ, _+_, _*_}
 use mathlib.Core.Bool.{Bool}
-use mathlib.Core.List.{List, [], _∷_}
+use mathlib.Core.List.{List, [], _∷_, _++_}
 use mathlib.Core.Option.{Option, none, some}
 use lib.Dec.{eqb}
 use lib.ListN.{length}
@@ -70,7 +70,7 @@ filings =
     (record { word = ascii "keep"; count = 1; made = λ ns. Keep (byte ns 0) })
     ∷ (record { word = ascii "drop"; count = 1; made = λ ns. Drop (byte ns 0) })
     ∷ (record { word = ascii "discard"; count = 1; made = λ ns. Discard (byte ns 0) })
-    ∷ questions
+    ∷ []
 
 abbrev pub events : List Verb
 events =
@@ -78,10 +78,12 @@ events =
     ∷ (record { word = ascii "send"; count = 2; made = λ ns. Send (byte ns 0) (byte ns 1) })
     ∷ (record { word = ascii "receive"; count = 2; made = λ ns. Receive (byte ns 0) (byte ns 1) })
     ∷ (record { word = ascii "reset"; count = 1; made = λ ns. Reset (byte ns 0) })
-    ∷ filings
+    ∷ []
 
 unfoldable pub verbs : List Verb
-verbs = (record { word = ascii "start"; count = 7; made = λ ns. Start (setupFrom ns) }) ∷ events
+verbs =
+    (record { word = ascii "start"; count = 7; made = λ ns. Start (setupFrom ns) })
+    ∷ (events ++ filings ++ questions)
 
 unfoldable pub choose : List Verb → List ℕ → Command
 choose [] l = Bad

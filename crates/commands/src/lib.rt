@@ -1,6 +1,7 @@
 // A line of the listing is read into a command: a verb, then numbers of exactly three digits, with single spaces.
 ghost use mathlib.Core.Path.{_≡_};
 ghost use Prim.Native.Nat.{_+_, _*_, _-_, _≤_, _<_};
+ghost use mathlib.Core.List.{_++_};
 ghost use lib.ListN.{length};
 ghost use Rattle.text.specs.Digits.{numberAt, numbersAt};
 ghost use Rattle.commands.specs.Lines.{shaped, setupFrom, questions, filings, events, choose, parseOf};
@@ -74,7 +75,7 @@ fn parse_questions(line: &[u8]) -> Command
 
 // The filings, then the questions.
 fn parse_filings(line: &[u8]) -> Command
-    ensures { λ r. ⌜ r ≡ choose filings (now (line .entry)) ⌝ }
+    ensures { λ r. ⌜ r ≡ choose (filings ++ questions) (now (line .entry)) ⌝ }
 {
     if is_line(line, b"keep", 1) {
         Command::Keep(number(line, 0, 1))
@@ -89,7 +90,7 @@ fn parse_filings(line: &[u8]) -> Command
 
 // The four events, then the filings.
 fn parse_events(line: &[u8]) -> Command
-    ensures { λ r. ⌜ r ≡ choose events (now (line .entry)) ⌝ }
+    ensures { λ r. ⌜ r ≡ choose (events ++ filings ++ questions) (now (line .entry)) ⌝ }
 {
     if is_line(line, b"local", 1) {
         Command::Local(number(line, 0, 1))

@@ -1,11 +1,11 @@
 -- `commands::parse_filings` meets its contract. Assumes nothing.
 use Prim.Native.Nat.{ℕ}
 use mathlib.Core.Path.{sym, _∙_}
-use mathlib.Core.List.{List}
+use mathlib.Core.List.{List, _++_}
 use native.Mathlib.Omega.{arith}
 use borrow.Author.Needs.{needs}
 use Rattle.tools.specs.Lists.{tab}
-use Rattle.commands.specs.Lines.{filings}
+use Rattle.commands.specs.Lines.{questions, filings}
 use Rattle.commands.proofs.Shapes.{Past, fits, chosen, passed}
 use Rattle.commands.proofs.parse_filings.Statement.{statement}
 use Rattle.commands.proofs.parse_filings.Tie as tie
@@ -13,13 +13,13 @@ use Rattle.commands.proofs.parse_filings.Tie as tie
 abbrev line : tie.Else1 → List ℕ
 line c = c .before .before .before .before .args .line .now
 
-past-1 : (c : tie.Else1) → Past filings 1 (line c)
+past-1 : (c : tie.Else1) → Past (filings ++ questions) 1 (line c)
 past-1 c = passed _ _ _ (c .before .is-line .ensures) (c .if1 .left)
 
-past-2 : (c : tie.Else2) → Past filings 2 (line (c .before .before .before))
+past-2 : (c : tie.Else2) → Past (filings ++ questions) 2 (line (c .before .before .before))
 past-2 c = past-1 (c .before .before .before) ∙ passed _ _ _ (c .before .is-line2 .ensures) (c .if2 .left)
 
-past-3 : (c : tie.Else3) → Past filings 3 (line (c .before .before .before .before .before .before))
+past-3 : (c : tie.Else3) → Past (filings ++ questions) 3 (line (c .before .before .before .before .before .before))
 past-3 c = past-2 (c .before .before .before) ∙ passed _ _ _ (c .before .is-line3 .ensures) (c .if3 .left)
 
 returns : tie.Need-returns
