@@ -48,7 +48,8 @@ fn is_before(owner: u8, other: u8, there: Way) -> bool
 
 // How the owner's stamp stands to the other's, which asks both ways: there and back.
 fn relation(owner: u8, other: u8, there: Way, back: Way) -> Relation
-    ensures { λ r. ⌜ ((e f : Row) → Clocked there owner e f → Clocked back other f e → r ≡ Model.relation (gapOf there) (gapOf back) owner other e f) ⌝ }
+    ensures { λ r. ⌜ ((e f : Row) → Clocked there owner e f → Clocked back other f e
+        → r ≡ Model.relation (gapOf there) (gapOf back) owner other e f) ⌝ }
 {
     if (owner == other) & same_by(there) {
         return Relation::Same;
@@ -84,7 +85,8 @@ pub fn told(setup: Setup, owner: u8, other: u8, there: Way) -> Told
 // What compare answers where both stamps are there: it needs both ways within reach.
 pub fn compared(setup: Setup, owner: u8, other: u8, there: Way, back: Way) -> Compared
     requires { ⌜ (setup .back ≤ 255) × (setup .ahead ≤ 255) ⌝ }
-    ensures { λ r. ⌜ ((g h : Option Gap) (e f : Row) → WayOf setup g owner e f there → WayOf setup h other f e back → comparedSays r ≡ compareBy g h owner other e f) ⌝ }
+    ensures { λ r. ⌜ ((g h : Option Gap) (e f : Row) → WayOf setup g owner e f there → WayOf setup h other f e back
+        → comparedSays r ≡ compareBy g h owner other e f) ⌝ }
 {
     if out_of_reach(setup, there) | out_of_reach(setup, back) {
         return Compared::Refused(rules::OUT_OF_REACH);

@@ -138,19 +138,19 @@ pub fn setup_by(
     desks: usize,
     phases: usize,
     clocks: usize,
-    seats: usize,
-    shelf: usize,
+    seatLag: usize,
+    shelfLag: usize,
     back: usize,
     ahead: usize,
 ) -> Setup
-    ensures { λ r. ⌜ r ≡ setupBy desks phases clocks seats shelf back ahead ⌝ }
+    ensures { λ r. ⌜ r ≡ setupBy desks phases clocks seatLag shelfLag back ahead ⌝ }
 {
     Setup {
         desks: desks,
         phases: phases,
         clocks: clocks,
-        seatLag: seats,
-        shelfLag: shelf,
+        seatLag: seatLag,
+        shelfLag: shelfLag,
         back: back,
         ahead: ahead,
     }

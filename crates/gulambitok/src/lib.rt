@@ -16,17 +16,17 @@ pub extern "C" fn gulambitok_start(
     desks: usize,
     phases: usize,
     clocks: usize,
-    seats: usize,
-    shelf: usize,
+    seatLag: usize,
+    shelfLag: usize,
     back: usize,
     ahead: usize,
 ) -> u8
-    ensures { λ r. ⌜ Makes (Calls.start (setupBy desks phases clocks seats shelf back ahead))
+    ensures { λ r. ⌜ Makes (Calls.start (setupBy desks phases clocks seatLag shelfLag back ahead))
         (now (book .entry)) (now (book .exit)) [] r ⌝ }
 {
     portal::start(
         book,
-        door::setup_by(desks, phases, clocks, seats, shelf, back, ahead),
+        door::setup_by(desks, phases, clocks, seatLag, shelfLag, back, ahead),
     )
 }
 
@@ -182,8 +182,8 @@ pub extern "C" fn gulambitok_label_before(
     desks: usize,
     phases: usize,
     clocks: usize,
-    seats: usize,
-    shelf: usize,
+    seatLag: usize,
+    shelfLag: usize,
     back: usize,
     ahead: usize,
     first: &[u8],
@@ -191,10 +191,10 @@ pub extern "C" fn gulambitok_label_before(
     answer: &mut [u8],
 ) -> u8
     ensures { λ r. ⌜ Gives
-        (beforeOf (setupBy desks phases clocks seats shelf back ahead) (now (first .entry)) (now (second .entry)))
+        (beforeOf (setupBy desks phases clocks seatLag shelfLag back ahead) (now (first .entry)) (now (second .entry)))
         (byteTo (now (answer .entry)) (now (answer .exit)) ∷ []) r ⌝ }
 {
-    let s = door::setup_by(desks, phases, clocks, seats, shelf, back, ahead);
+    let s = door::setup_by(desks, phases, clocks, seatLag, shelfLag, back, ahead);
     door::give_told(answer, labels::before(s, first, second))
 }
 
@@ -204,8 +204,8 @@ pub extern "C" fn gulambitok_label_compare(
     desks: usize,
     phases: usize,
     clocks: usize,
-    seats: usize,
-    shelf: usize,
+    seatLag: usize,
+    shelfLag: usize,
     back: usize,
     ahead: usize,
     first: &[u8],
@@ -213,10 +213,10 @@ pub extern "C" fn gulambitok_label_compare(
     answer: &mut [u8],
 ) -> u8
     ensures { λ r. ⌜ Gives
-        (compareOf (setupBy desks phases clocks seats shelf back ahead) (now (first .entry)) (now (second .entry)))
+        (compareOf (setupBy desks phases clocks seatLag shelfLag back ahead) (now (first .entry)) (now (second .entry)))
         (byteTo (now (answer .entry)) (now (answer .exit)) ∷ []) r ⌝ }
 {
-    let s = door::setup_by(desks, phases, clocks, seats, shelf, back, ahead);
+    let s = door::setup_by(desks, phases, clocks, seatLag, shelfLag, back, ahead);
     door::give_relation(answer, labels::compare(s, first, second))
 }
 
@@ -226,8 +226,8 @@ pub extern "C" fn gulambitok_label_newest(
     desks: usize,
     phases: usize,
     clocks: usize,
-    seats: usize,
-    shelf: usize,
+    seatLag: usize,
+    shelfLag: usize,
     back: usize,
     ahead: usize,
     first: &[u8],
@@ -235,9 +235,9 @@ pub extern "C" fn gulambitok_label_newest(
     answer: &mut [u8],
 ) -> u8
     ensures { λ r. ⌜ Gives
-        (compareOf (setupBy desks phases clocks seats shelf back ahead) (now (first .entry)) (now (second .entry)))
+        (compareOf (setupBy desks phases clocks seatLag shelfLag back ahead) (now (first .entry)) (now (second .entry)))
         (whichTo (now (answer .entry)) (now (answer .exit)) ∷ []) r ⌝ }
 {
-    let s = door::setup_by(desks, phases, clocks, seats, shelf, back, ahead);
+    let s = door::setup_by(desks, phases, clocks, seatLag, shelfLag, back, ahead);
     door::give_newest(answer, labels::compare(s, first, second))
 }

@@ -39,7 +39,15 @@ mapShown φ none = none
 mapShown φ (some r) = some (mapRow φ r)
 
 abbrev pub mapValue : (ℕ → ℕ → ℕ) → Value → Value
-mapValue φ v = record { place = v .place; stamp = mapStamp φ (v .stamp); slot = v .slot; verdict = v .verdict; relation = v .relation; row = mapShown φ (v .row) }
+mapValue φ v =
+    record {
+      place = v .place;
+      stamp = mapStamp φ (v .stamp);
+      slot = v .slot;
+      verdict = v .verdict;
+      relation = v .relation;
+      row = mapShown φ (v .row);
+    }
 
 abbrev pub mapAnswer : (ℕ → ℕ → ℕ) → Answer → Answer
 mapAnswer φ a = record { number = a .number; value = mapValue φ (a .value) }

@@ -112,7 +112,7 @@ pub fn keep_number(book: &[u8], desk: usize) -> u8
     rules::DONE
 }
 
-// Drop and discard: BadBook, NoPlace or 0; first is the record of place or slot 0 slot or place.
+// Drop and discard: BadBook, NoPlace or 0; first is the record of place or slot 0.
 pub fn used_number(book: &[u8], first: usize, place: usize) -> u8
     requires { ⌜ first ≤ shelfFrom ⌝ }
     ensures { λ r. ⌜ r ≡ usedNumber (now (book .entry)) first place ⌝ }

@@ -34,7 +34,8 @@ use Rattle.rules.specs.Numbers.{
   OutOfReach,
   number,
 }
-use Rattle.rules.specs.Model.{Held, Tables, Act, local, reset, keep, drop, discard, show, send, receive, before, compare, write, used, own}
+use Rattle.rules.specs.Model.{Held, Tables, Act, local, reset, keep, drop, discard, send, receive}
+use Rattle.rules.specs.Model.{before, compare, show, write, used, own}
 
 pub data AtDesk : Act → ℕ → Type 0 where
   at-local : {j : ℕ} → AtDesk (local j) j
