@@ -8,6 +8,7 @@ use mathlib.Core.Logic.{_⊎_, inl, inr}
 use native.Mathlib.Omega.{arith}
 use Rattle.tools.specs.Tests.{pick}
 use Rattle.tools.specs.Reasons.{ifDone}
+use Rattle.tools.proofs.Reasons.{if-undone}
 use Rattle.rules.specs.declared.Setup.{Setup}
 use Rattle.rules.specs.Setups.{permits}
 use Rattle.rules.specs.Model.{Act, fresh, Answer, refusal}
@@ -32,11 +33,7 @@ answer-is s c a = rw (answerTo, a)
 -- a refused call leaves every byte
 pub refused : (s : List ℕ) (c : Call) → (answerTo s c .number ≡ 0 → ⊥) → bookAfter s c ≡ s
 unfolding bookAfter
-refused s c ne = go (answerTo s c .number) ne
-  where
-    go : (n : ℕ) → (n ≡ 0 → ⊥) → ifDone n (encode (turnOn s c .book)) s ≡ s
-    go zero h = absurd (h refl)
-    go (suc n) h = refl
+refused s c ne = if-undone (answerTo s c .number) _ s ne
 
 pub accepted : (s : List ℕ) (c : Call) → answerTo s c .number ≡ 0 → bookAfter s c ≡ encode (turnOn s c .book)
 unfolding bookAfter

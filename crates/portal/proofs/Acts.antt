@@ -10,6 +10,7 @@ use borrow.Author.Tests.{ne-eqb}
 use Rattle.tools.specs.Tables.{put}
 use Rattle.tools.specs.Lists.{byte}
 use Rattle.tools.specs.Reasons.{ifDone}
+use Rattle.tools.proofs.Reasons.{if-undone}
 use Rattle.tools.proofs.Tests.{not-off}
 use Rattle.ring.specs.Phases.{Pair}
 use Rattle.rules.specs.declared.Stamp.{Stamp}
@@ -247,8 +248,7 @@ module _ (s : List ℕ) (a p : ℕ) where
   free-done e b eb = eb ∙ ap (λ (n : ℕ). ifDone n (cleared s (a + p)) s) (sym e)
 
   pub free-left : (n : ℕ) → n ≡ usedNumber s a p → (n ≡ 0 → ⊥) → s ≡ freeAfter s a p
-  free-left zero e ne = absurd (ne refl)
-  free-left (suc n) e ne = ap (λ (m : ℕ). ifDone m (cleared s (a + p)) s) e
+  free-left n e ne = sym (if-undone (usedNumber s a p) _ s (λ z. ne (e ∙ z)))
 
   -- by an act that asks for it alone
   module _ (c : Act) (e : usedNumber s a p ≡ numberOf s c) (v : numberOf s c ≡ 0 → refusal 0 ≡ answerTo s (on c))
