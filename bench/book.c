@@ -1,4 +1,4 @@
-/* The portal book of document 01 in plain C: every call checks the whole book first. */
+/* The portal book of docs/RULES.md in plain C: every call checks the whole book first. */
 #include "book.h"
 
 #include <string.h>

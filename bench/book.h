@@ -1,4 +1,4 @@
-/* The baseline: the portal book of document 01 in plain C, with the library's own calls under plain_. */
+/* The baseline: the portal book of docs/RULES.md in plain C, with the library's own calls under plain_. */
 #ifndef BOOK_H
 #define BOOK_H
 

@@ -1,4 +1,4 @@
-/* The listing of document 01 in plain C: lines on standard input, answers on standard output. */
+/* The listing of docs/RULES.md in plain C: lines on standard input, answers on standard output. */
 #include "book.h"
 
 #include <stdint.h>

@@ -1,4 +1,4 @@
-/* The session of document 01's listing, made from C and printed as the listing prints it. */
+/* The session of examples/session.in, made from C and printed as the listing prints it. */
 #include "gulambitok.h"
 
 #include <stdio.h>

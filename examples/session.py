@@ -1,4 +1,4 @@
-"""The session of document 01's listing, made from Python and printed as the listing prints it."""
+"""The session of examples/session.in, made from Python and printed as the listing prints it."""
 
 import ctypes
 from pathlib import Path

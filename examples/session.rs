@@ -1,4 +1,4 @@
-//! The session of document 01's listing, made from Rust and printed as the listing prints it.
+//! The session of examples/session.in, made from Rust and printed as the listing prints it.
 
 const BOOK: usize = 1456;
 const STAMP: usize = 20;

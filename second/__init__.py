@@ -1,4 +1,4 @@
-"""The second opinion: document 01 again, written from the document alone.
+"""The second opinion: the rules of docs/RULES.md, from their words and not from the code.
 
 book.py     the book as bytes, every call on raw bytes and plain numbers
 line.py     the same calls by sets of events and phases that never come round

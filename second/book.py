@@ -1,4 +1,4 @@
-"""The portal book as bytes, by document 01.
+"""The portal book as bytes, by docs/RULES.md.
 
 Every call takes the book (bytes of any length) and whole numbers of any size,
 and hands back (number, values, book): the answer number, the values (none when

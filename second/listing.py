@@ -1,4 +1,4 @@
-"""The program's text by document 01: listing in, answers out.
+"""The program's text by docs/RULES.md: listing in, answers out.
 
     python3 second/listing.py < listing > answers
 

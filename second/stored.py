@@ -89,7 +89,7 @@ def example(w):
         w.say(verb, *numbers)
 
 
-# The cases, by document 01's numbers
+# The cases, by their numbers in docs/RULES.md
 
 def case_1_and_2(w):
     w.say("start", *X)

@@ -1,6 +1,6 @@
 """Tests of the second opinion itself: python3 second/test_second.py
 
-The example and the cases of document 01; that the fixed seeds and the stored
+The example and the cases of docs/RULES.md; that the fixed seeds and the stored
 listing find each error the desks would make; and that the runners report.
 """
 

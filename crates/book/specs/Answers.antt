@@ -1,5 +1,5 @@
 -- What every call answers, and every byte that it leaves. The contracts of the portal and demand 3 speak of these two.
--- Assumes nothing.
+-- Assumes nothing. In words: docs/RULES.md, "Calls".
 --   admits s c     the call c does not find a bad book; start asks only the length
 --   turnOn s c     what the call does by the rules, on the ring
 --   answerTo s c   the answer to the call c on the bytes s: number and value, BadBook first

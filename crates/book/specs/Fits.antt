@@ -1,4 +1,4 @@
--- Tables that a sound book can hold: what document 01 asks of the numbers in seats, mail places and slots.
+-- Tables that a sound book can hold: what is asked of the numbers in seats, mail places and slots.
 -- Assumes nothing.
 --   InRange X o B q     the pair q is in range and lags at most B behind o
 --   PairFits X o B k q  the pair q for desk k is in range and lags at most B behind o, or zero where there is no desk k

@@ -1,5 +1,5 @@
 -- Where the numbers of a book stand: a header, then a record for each seat, each mail place and each shelf slot.
--- Assumes nothing.
+-- Assumes nothing. In words: docs/RULES.md, "Bytes".
 --   bookSize, headSize, recordSize, rowSize   how many bytes a book has, its header, a record and a row
 --   records          how many records there are
 --   seats            how many seats, whose records come first; a row has a pair for each

@@ -1,5 +1,5 @@
 -- When the bytes of a book are sound, clause by clause.
--- Assumes nothing.
+-- Assumes nothing. In words: docs/RULES.md, "Sound books".
 --   pairOk X B o j q   the pair q for desk j is in range and lags at most B behind o; zero where there is no desk j
 --   columnOk f B k j   so is the pair for desk j in record k, o the own phase of j
 --   rowOk f B k        so is every pair of the row of record k

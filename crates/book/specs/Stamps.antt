@@ -1,5 +1,5 @@
 -- Stamp records: twenty bytes, laid out as the records of a book are.
--- Assumes nothing.
+-- Assumes nothing. In words: docs/RULES.md, "Stamp records".
 --   stampMark0, stampMark1   the mark of a stamp record
 --   stampByte D e c   byte c of the record of the stamp e: mark, owner, D, row
 --   writeStamp D e    the record

@@ -1,11 +1,11 @@
 -- A line of the listing: a verb, then numbers of exactly three digits, with single spaces, and nothing else.
--- Assumes nothing.
+-- Assumes nothing. In words: docs/RULES.md, "Listing".
 --   shaped l w n    the line is the word w and n numbers
 --   Verb            a word, how many numbers follow it, and the command that they make
 --   questions       the verbs that ask about two slots
 --   filings         those that fill or free a slot or a place
 --   events          those of the four events
---   verbs           all verbs, in the order of document 01: start first
+--   verbs           all verbs, start first
 --   choose vs l     the command of the first verb whose line l is; `Bad` where there is none
 --   parseOf l       the command of a line; `Bad` for a line of any other shape
 --   setupFrom ns    the setup that seven numbers make

@@ -1,5 +1,5 @@
 -- The C interface: a call's value goes into buffers that the caller lends, and a buffer too short is one more reason.
--- Assumes nothing.
+-- Assumes nothing. In words: docs/RULES.md, "C interface".
 --   setupBy D P L M A m n   the setup of the seven numbers
 --   relationByte r   the byte of a relation
 --   one n            the byte n

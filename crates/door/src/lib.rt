@@ -1,4 +1,4 @@
-// Answers for a caller in C: the paper's number, and the bytes of a value in front of a lent buffer. A buffer too short for it is
+// Answers for a caller in C: the call's number, and the bytes of a value in front of a lent buffer. A buffer too short for it is
 // NoRoom, and then nothing changes.
 ghost use mathlib.Core.Path.{_≡_};
 ghost use mathlib.Core.List.{[], _∷_};

@@ -1,5 +1,5 @@
-// The C interface: every call of document 01 over byte slices and numbers. Each answers the paper's number and writes its value
-// into a buffer that the caller lends; a buffer too short for it is NoRoom, and then nothing changes.
+// The C interface (docs/RULES.md): every call over byte slices and numbers. Each answers its number and writes its value into a
+// buffer that the caller lends; a buffer too short for it is NoRoom, and then nothing changes.
 ghost use mathlib.Core.Path.{_≡_};
 ghost use mathlib.Core.List.{[], _∷_};
 ghost use lib.ListN.{length};

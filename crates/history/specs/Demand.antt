@@ -1,5 +1,5 @@
 -- What demand 3 says of before and compare, over the history of the line.
--- Assumes nothing.
+-- Assumes nothing. In words: docs/RULES.md, "As if phases never came round".
 --   InReach X h x y      the true phases of x's desk at x and at y differ by no more than the setup permits
 --   BeforeSaid h x y a   a says yes, of the events x and y, exactly when a chain leads from x to y
 --   BeforeIs X h x y a   a is the answer to before, of the stamps of the events x and y

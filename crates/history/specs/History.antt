@@ -1,5 +1,5 @@
 -- The run on the line with its history: the accepted events, and the event behind each place, slot and seat.
--- Assumes nothing.
+-- Assumes nothing. In words: docs/RULES.md, "As if phases never came round".
 --   Kind           which of the four events; a receive with the number of its send
 --   cause w        the send that a receive takes in
 --   Log            the accepted events since the last accepted start, numbered from 0

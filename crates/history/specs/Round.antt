@@ -1,5 +1,5 @@
 -- A map of phases, desk by desk, in rows, tables and answers; the coming round is one.
--- Assumes nothing.
+-- Assumes nothing. In words: docs/RULES.md, "As if phases never came round".
 --   φ k v                what the phase v of desk k becomes
 --   mapPair, mapRow, mapSeat, mapHeld, mapTables   a pair, a row, a seat, what is held, the tables, with every phase mapped
 --   mapStamp, mapShown, mapValue, mapAnswer, mapResult   a stamp or a row in a value, a value, an answer, a result, likewise

@@ -1,6 +1,6 @@
 -- An answer as a line: its number, on 000 what goes with it, a newline. All numbers have three digits; a space stands before
 -- each later field.
--- Assumes nothing.
+-- Assumes nothing. In words: docs/RULES.md, "Listing".
 --   pair p c          a space and a pair, phase.clock
 --   pairs D r         the pairs of the first D desks
 --   stampText D o r   the owner and D pairs

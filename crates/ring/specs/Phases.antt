@@ -1,5 +1,5 @@
 -- The arithmetic of phases: on a ring of P, and on a line, where phases never come round.
--- Assumes nothing.
+-- Assumes nothing. In words: docs/RULES.md, "Phases".
 --   Pair               a phase and a clock
 --   lagOf P own v      how far the phase v lags behind the phase own, on a ring of P
 --   nextOf P v         the phase after v, on a ring of P

@@ -1,4 +1,4 @@
--- The answer table of document 01: the number that an act answers is the smallest whose row is due.
+-- The answer table: the number that an act answers is the smallest whose row is due.
 -- Assumes nothing.
 use mathlib.Core.Path.{_≡_, refl, ap, _∙_}
 use mathlib.Core.Bool.{Bool, true, false, not, _&&_, _||_, false≢true}

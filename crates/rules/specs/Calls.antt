@@ -1,5 +1,5 @@
 -- Books with their setup, and every call on them, in any arithmetic of phases.
--- Assumes nothing.
+-- Assumes nothing. In words: docs/RULES.md, "Calls".
 --   ringOf X     the ring of a setup; lineOf X, the line
 --   Book         a setup and its tables
 --   Call         start, or an act on the book that is there

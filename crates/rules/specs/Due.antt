@@ -1,5 +1,5 @@
--- The answer table of document 01, row by row: when a name is due to an act.
--- Assumes nothing. BadBook is for the bytes, BadLine for the program.
+-- The answer table, row by row: when a name is due to an act.
+-- Assumes nothing. In words: docs/RULES.md, "Answer numbers". BadBook is for the bytes, BadLine for the program.
 --   AtDesk c j          the act c names the desk j
 --   Ticks c j           c is local, send or receive at the desk j
 --   OfMail c p          c names the mail place p

@@ -1,5 +1,5 @@
 -- Before, compare and newest off the book: given a setup and two stamp records.
--- Assumes nothing.
+-- Assumes nothing. In words: docs/RULES.md, "Comparing" and "Stamp records".
 --   gapOff X j e f      the difference from e to f at desk j that two phases of a ring show, none beyond reach
 --   reads, ownerIn, rowRead   of a record as it reads: whether it does, its owner, its row; 0 and zeros where it does not
 --   gapRead X e f       the same of two records as they read, at the first one's owner

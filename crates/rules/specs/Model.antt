@@ -1,5 +1,5 @@
 -- A book without its bytes, and one step function over any arithmetic of phases.
--- Assumes nothing.
+-- Assumes nothing. In words: docs/RULES.md, "Steps" and "Comparing".
 --   seats            the seats; a row has a pair for each of their desks
 --   places           the mail places; there are as many shelf slots
 --   recordSize       the bytes of a stamp record

@@ -1,5 +1,5 @@
--- The answer table of document 01.
--- Assumes nothing.
+-- The answer table.
+-- Assumes nothing. In words: docs/RULES.md, "Answer numbers".
 --   Name       why a call is refused
 --   number w   its number; 0 is done
 --   given w t  the name w is given when t holds

@@ -1,4 +1,4 @@
--- What the code's answers say: the paper's number and value for each case of each type of answer.
+-- What the code's answers say: the table's number and the value for each case of each type of answer.
 -- Assumes nothing.
 --   rowSize         how many bytes a row has: each desk's phase, then its clock
 --   phaseSpot j, clockSpot j   which of them is the phase of desk j, and which the clock

@@ -1,5 +1,5 @@
 -- What a stream of bytes prints: each line is answered at its newline, a last line without one at the end of the input.
--- Assumes nothing.
+-- Assumes nothing. In words: docs/RULES.md, "Listing".
 --   Answers          what a line prints on a book, and the book that it leaves
 --   flat xs          no byte of xs is a newline
 --   part a e xs      the bytes of xs from a to e, e left out
