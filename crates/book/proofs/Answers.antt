@@ -2,21 +2,23 @@
 -- Assumes nothing.
 use Prim.Native.Nat.{ℕ, zero, suc}
 use mathlib.Core.Path.{_≡_, refl, sym, ap, _∙_}
-use mathlib.Core.Bool.{Bool, true, false, not}
+use mathlib.Core.Bool.{Bool, true, false, false≢true, not}
 use mathlib.Core.List.{List}
-use mathlib.Core.Logic.{_⊎_, inl, inr}
+use mathlib.Core.Logic.{_⊎_, inl, inr, _↔_}
 use native.Mathlib.Omega.{arith}
 use Rattle.tools.specs.Tests.{pick}
 use Rattle.tools.specs.Reasons.{ifDone}
 use Rattle.tools.proofs.Reasons.{if-undone}
 use Rattle.rules.specs.declared.Setup.{Setup}
 use Rattle.rules.specs.Setups.{permits}
+use Rattle.rules.specs.Numbers.{BadBook, number}
 use Rattle.rules.specs.Model.{Act, fresh, Answer, refusal}
 use Rattle.rules.specs.Calls.{Book, Call, start, on, Turn, ringOf, settled, call}
 use Rattle.book.specs.Fits.{Fits}
 use Rattle.rules.proofs.Setups.{permitted}
 use Rattle.book.proofs.Fits.{fresh-fits, step-fits}
 use Rattle.rules.proofs.Steps.{step-refused}
+use Rattle.rules.proofs.Reasons.{never-bad}
 use Rattle.book.specs.Layout.{fields, setupOf}
 use Rattle.book.specs.Sound.{sound}
 use Rattle.book.specs.Codec.{read, write, decode, encode}
@@ -29,6 +31,15 @@ use Rattle.book.proofs.Kept.{holds-sound}
 pub answer-is : (s : List ℕ) (c : Call) → admits s c ≡ true → answerTo s c ≡ turnOn s c .answer
 unfolding answerTo
 answer-is s c a = rw (answerTo, a)
+
+-- BadBook is answered exactly to a call that the bytes do not admit
+pub bad-book : (s : List ℕ) (c : Call) → (answerTo s c .number ≡ number BadBook) ↔ (admits s c ≡ false)
+unfolding answerTo
+bad-book s c = go (admits s c)
+  where
+    go : (t : Bool) → (pick t (turnOn s c .answer) (refusal (number BadBook)) .number ≡ number BadBook) ↔ (t ≡ false)
+    go true = (λ e. absurd (never-bad ringOf (decode s) c e), λ e. absurd (false≢true (sym e)))
+    go false = (λ e. refl, λ e. refl)
 
 -- a refused call leaves every byte
 pub refused : (s : List ℕ) (c : Call) → (answerTo s c .number ≡ 0 → ⊥) → bookAfter s c ≡ s

@@ -5,10 +5,12 @@ use mathlib.Core.Path.{_≡_, refl, ap, sym, subst}
 use mathlib.Core.Bool.{true, _||_}
 use mathlib.Core.Option.{Option}
 use Prim.Native.Nat.{ℕ, zero, suc}
-use Rattle.tools.specs.Reasons.{first, ascending, Holds, Smallest}
-use Rattle.tools.proofs.Reasons.{first-smallest}
+use Rattle.tools.specs.Reasons.{first, rises, Holds, Smallest}
+use Rattle.tools.proofs.Reasons.{first-smallest, holds-above}
+use native.Mathlib.Omega.{arith}
 use Rattle.ring.specs.Phases.{Phases}
 use Rattle.rules.specs.declared.Setup.{Setup}
+use Rattle.rules.specs.Numbers.{BadBook, number}
 use Rattle.rules.specs.Model.{Tables, Question, askBefore, askCompare, askShow, askWrite, Act, local, reset, keep, drop, discard, send, receive, ask, Value}
 use Rattle.rules.specs.Model.{refusal, isOut, askReasons, reasons, step}
 use Rattle.rules.specs.Calls.{reasonsOf, Book, Call, start, on, Turn, settled, turnOf, call}
@@ -17,14 +19,14 @@ use Rattle.rules.specs.Labels.{reasonsOff, Neither, gapRead, whyOff, set
 use Rattle.rules.proofs.Steps.{step-number, step-only}
 
 module _ (Z : Phases) (X : Setup) (b : Tables) where
-  ask-rising : (q : Question) → ascending (askReasons Z X b q) ≡ true
+  ask-rising : (q : Question) → rises 1 (askReasons Z X b q) ≡ true
   unfolding askReasons
   ask-rising (askBefore s t) = refl
   ask-rising (askCompare s t) = refl
   ask-rising (askShow s) = refl
   ask-rising (askWrite s room) = refl
 
-  rising : (c : Act) → ascending (reasons Z X b c) ≡ true
+  rising : (c : Act) → rises 1 (reasons Z X b c) ≡ true
   unfolding reasons
   rising (local j) = refl
   rising (send j k) = refl
@@ -36,7 +38,7 @@ module _ (Z : Phases) (X : Setup) (b : Tables) where
   rising (ask q) = ask-rising q
 
   pub act-number : (c : Act) → Smallest (Holds (reasons Z X b c)) (step Z X b c .answer .number)
-  act-number c = rw (step-number Z X b c) (first-smallest (reasons Z X b c) (rising c))
+  act-number c = rw (step-number Z X b c) (first-smallest (reasons Z X b c) 1 (rising c))
 
 module _ (Z : Setup → Phases) (b : Book) where
   -- a start is settled by its number
@@ -54,8 +56,17 @@ module _ (Z : Setup → Phases) (b : Book) where
   unfolding call
   number-due (start X) =
       subst (Smallest (Holds (reasonsOf Z b (start X)))) (sym (settled-number (first (reasonsOf Z b (start X))) _ refl))
-      (first-smallest (reasonsOf Z b (start X)) refl)
+      (first-smallest (reasonsOf Z b (start X)) 1 refl)
   number-due (on c) = act-number (Z (b .setup)) (b .setup) (b .tables) c
+
+  -- BadBook's number is due to no call on a book that is admitted
+  pub never-bad : (c : Call) → call Z b c .answer .number ≡ number BadBook → ⊥
+  never-bad c e =
+      let l = holds-above (reasonsOf Z b c) 1 1 (rising-of c) (number-due c .due 1 (omega arith) .0 e .0) in omega arith
+    where
+      rising-of : (c : Call) → rises 1 (reasonsOf Z b c) ≡ true
+      rising-of (start X) = refl
+      rising-of (on c) = rising (Z (b .setup)) (b .setup) (b .tables) c
 
   -- A refused call answers its number only, and leaves the book as it was: its setup and its tables.
   pub refused : (c : Call) → (call Z b c .answer .number ≡ 0 → ⊥)
@@ -74,14 +85,14 @@ module _ (X : Setup) (e f : Option Label) where
   unfolding beforeOff
   before-due =
       rw (settle-number (whyOff X e f (isOut (gapRead X e f))) _)
-      (first-smallest (reasonsOff X e f (isOut (gapRead X e f))) refl)
+      (first-smallest (reasonsOff X e f (isOut (gapRead X e f))) 1 refl)
 
   -- newest is refused as compare is
   pub compare-due : Smallest (Holds (reasonsOff X e f (isOut (gapRead X e f) || isOut (gapRead X f e)))) (compareOff X e f .number)
   unfolding compareOff
   compare-due =
       rw (settle-number (whyOff X e f (isOut (gapRead X e f) || isOut (gapRead X f e))) _)
-      (first-smallest (reasonsOff X e f (isOut (gapRead X e f) || isOut (gapRead X f e))) refl)
+      (first-smallest (reasonsOff X e f (isOut (gapRead X e f) || isOut (gapRead X f e))) 1 refl)
 
   -- where compare is refused, newest hands back neither
   pub newest-refused : (compareOff X e f .number ≡ 0 → ⊥) → newestOff X e f ≡ Neither
