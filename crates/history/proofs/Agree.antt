@@ -6,7 +6,7 @@ use mathlib.Core.Bool.{Bool, true, false, false≢true}
 use mathlib.Core.Option.{some}
 use mathlib.Core.List.{List}
 use mathlib.Core.Logic.{_↔_}
-use Prim.Native.Nat.{ℕ, _<_}
+use Prim.Native.Nat.{ℕ}
 use native.Mathlib.Omega.{arith}
 use Rattle.tools.proofs.Tests.{alike}
 use Rattle.rules.specs.declared.Setup.{Setup}
@@ -42,15 +42,15 @@ one-before h x y a c p q =
       value = (p .2 ∙ ap says (same-word (p .0) (q .0) (p .3) (q .3)) ∙ sym (q .2)) i;
     }
 
-module _ (X : Setup) (h : Log) (c : Causal X h) (x y : ℕ) (lx : x < h .count) (ly : y < h .count) where
+module _ (X : Setup) (h : Log) (c : Causal X h) (x y : ℕ) where
   no-loop : Leads h x y → Leads h y x → ⊥
-  no-loop l m = let v = leads-lt h (c .caused) l ly in let w = leads-lt h (c .caused) m lx in omega arith
+  no-loop l m = let v = leads-lt h (c .caused) l in let w = leads-lt h (c .caused) m in omega arith
 
   not-same : Leads h x y → x ≡ y → ⊥
-  not-same l q = let v = leads-lt h (c .caused) l ly in omega arith
+  not-same l q = let v = leads-lt h (c .caused) l in omega arith
 
   not-same′ : Leads h y x → x ≡ y → ⊥
-  not-same′ l q = let v = leads-lt h (c .caused) l lx in omega arith
+  not-same′ l q = let v = leads-lt h (c .caused) l in omega arith
 
   one-word : (r r′ : Relation) → Stands h x y r → Stands h x y r′ → r ≡ r′
   one-word Before Before p q = refl
@@ -124,7 +124,7 @@ module _ (s : State) (w : Faithful s) (i j : ℕ) (e f : Held)
       go (yes (r, r′)) =
           let oe = slot-stamp s w i e pe in
           let of = slot-stamp s w j f pf in
-          one-compare X h (w .good .causal) x y (oe .is) (of .is) _ _
+          one-compare X h (w .good .causal) x y _ _
           (state-off-compare s w x y (labelHeld e) (labelHeld f) oe of r r′) (told .said r r′)
 
 -- after any calls from a fresh book on

@@ -46,8 +46,8 @@ module _ (X : Setup) (h : Log) (c : Causal X h) (x y : ℕ) (lx : x < h .count) 
       to (inl z) k = absurd (let v : seen X h x x ≡ seen X h x y = ap (λ n. key X (h .row n (h .desk x))) z in omega arith)
 
       back : Leads h x y → Upto h y x → ⊥
-      back l (inl z) = let v = leads-lt h (c .caused) l ly in omega arith
-      back l (inr m) = let v = leads-lt h (c .caused) l ly in let w = leads-lt h (c .caused) m lx in omega arith
+      back l (inl z) = let v = leads-lt h (c .caused) l in omega arith
+      back l (inr m) = let v = leads-lt h (c .caused) l in let w = leads-lt h (c .caused) m in omega arith
 
       from : Leads h x y → (t : Bool) → ltb (seen X h x x) (seen X h x y) ≡ t → (t || false) ≡ true
       from l true e = refl
@@ -104,7 +104,7 @@ module _ (X : Setup) (h : Log) (c : Causal X h) (x y : ℕ) (lx : x < h .count) 
       both : Upto h x y → Upto h y x → x ≡ y
       both (inl q) u = q
       both (inr l) (inl q) = sym q
-      both (inr l) (inr m) = absurd (let v = leads-lt h (c .caused) l ly in let w = leads-lt h (c .caused) m lx in omega arith)
+      both (inr l) (inr m) = absurd (let v = leads-lt h (c .caused) l in let w = leads-lt h (c .caused) m in omega arith)
 
       to : h .desk x ≡ h .desk y → seen X h x x ≡ seen X h x y → x ≡ y
       to q k =
@@ -115,7 +115,7 @@ module _ (X : Setup) (h : Log) (c : Causal X h) (x y : ℕ) (lx : x < h .count) 
 module _ (X : Setup) (h : Log) (c : Causal X h) (x y : ℕ) (lx : x < h .count) (ly : y < h .count)
     (d d′ : Gap) (t : True h d x y) (t′ : True h d′ y x) where
   no-loop : Leads h x y → Leads h y x → ⊥
-  no-loop l m = let v = leads-lt h (c .caused) l ly in let w = leads-lt h (c .caused) m lx in omega arith
+  no-loop l m = let v = leads-lt h (c .caused) l in let w = leads-lt h (c .caused) m in omega arith
 
   pub stands : Stands h x y (relation d d′ (h .desk x) (h .desk y) (h .row x) (h .row y))
   stands =

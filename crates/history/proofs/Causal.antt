@@ -35,27 +35,38 @@ pub record Causal (X : Setup) (h : Log) : Type 0 where
   pub complete : (e f : ℕ) → e < h .count → f < h .count → seen X h e e ≤ seen X h e f → Upto h e f
   pub origin : (f : ℕ) → f < h .count → (k : ℕ) → Origin h k (h .row f k)
 
-pub link-lt : (h : Log) → Caused h → {e f : ℕ} → Link h e f → f < h .count → e < f
-link-lt h c (desk-link l q) b = l
-link-lt h c (mail-link {e = e} {f = f} q) b = rw q at (c f b)
+-- a link goes to a later event
+pub link-lt : (h : Log) → Caused h → {e f : ℕ} → Link h e f → e < f
+link-lt h c (desk-link l b q) = omega arith
+link-lt h c (mail-link {e = e} {f = f} b q) = rw q at (c f (omega arith))
 
-pub leads-lt : (h : Log) → Caused h → {e f : ℕ} → Leads h e f → f < h .count → e < f
-leads-lt h c (one l) b = link-lt h c l b
-leads-lt h c (more {f = f} {g = g} a l) b =
-    let y = link-lt h c l b in
-    let x = leads-lt h c a (omega arith) in
+-- and ends in an event of the log
+link-in : (h : Log) → {e f : ℕ} → Link h e f → f < h .count
+link-in h (desk-link l b q) = omega arith
+link-in h (mail-link b q) = omega arith
+
+pub leads-lt : (h : Log) → Caused h → {e f : ℕ} → Leads h e f → e < f
+leads-lt h c (one l) = link-lt h c l
+leads-lt h c (more a l) =
+    let x = leads-lt h c a in
+    let y = link-lt h c l in
     omega arith
+
+pub leads-in : (h : Log) → {e f : ℕ} → Leads h e f → f < h .count
+leads-in h (one l) = link-in h l
+leads-in h (more a l) = link-in h l
 
 -- two logs that agree below n have the same chains there
 module _ (h h′ : Log) (n : ℕ) (desks : (i : ℕ) → i < n → h .desk i ≡ h′ .desk i)
-    (kinds : (i : ℕ) → i < n → h .kind i ≡ h′ .kind i) (back : (e f : ℕ) → Link h e f → f < n → e < f) where
+    (kinds : (i : ℕ) → i < n → h .kind i ≡ h′ .kind i) (c : Caused h) (long : n ≤ h′ .count) where
   carry-link : {e f : ℕ} → Link h e f → f < n → Link h′ e f
-  carry-link (desk-link {e = e} {f = f} l q) b = desk-link l (sym (desks e (omega arith)) ∙ q ∙ desks f b)
-  carry-link (mail-link {e = e} {f = f} q) b = mail-link (sym (ap cause (kinds f b)) ∙ q)
+  carry-link (desk-link {e = e} {f = f} l b q) m =
+      let d = desks e (omega arith) in let d′ = desks f m in desk-link l (omega arith) cc
+  carry-link (mail-link {e = e} {f = f} b q) m = mail-link {f = f} (omega arith) (sym (ap cause (kinds f m)) ∙ q)
 
   pub carry : {e f : ℕ} → Leads h e f → f < n → Leads h′ e f
-  carry (one l) b = one (carry-link l b)
-  carry (more {f = f} {g = g} a l) b = let y = back f g l b in more (carry a (omega arith)) (carry-link l b)
+  carry (one l) m = one (carry-link l m)
+  carry (more a l) m = let y = link-lt h c l in more (carry a (omega arith)) (carry-link l m)
 
 pub below : (Q : ℕ → Type 0) (n e : ℕ) → e < suc n → (e < n → Q e) → Q n → Q e
 below Q n e h f q = go (ℕ-discrete e n)
@@ -106,12 +117,10 @@ module _ (X : Setup) (h : Log) (c : Causal X h) (j : ℕ) (w : Kind) (r : Row) (
       (λ f ne l. c .caused f (omega arith))
 
   pub up : (e f : ℕ) → Leads h e f → f < h .count → Leads (logged h j w r) e f
-  up e f = carry h (logged h j w r) (h .count) (λ i l. sym (old-desk i l)) (λ i l. sym (old-kind i l))
-      (λ e f l b. link-lt h (c .caused) l b)
+  up e f = carry h (logged h j w r) (h .count) (λ i l. sym (old-desk i l)) (λ i l. sym (old-kind i l)) (c .caused) (omega arith)
 
   down : (e f : ℕ) → Leads (logged h j w r) e f → f < h .count → Leads h e f
-  down e f = carry (logged h j w r) h (h .count) old-desk old-kind
-      (λ e f l b. link-lt (logged h j w r) caused l (omega arith))
+  down e f = carry (logged h j w r) h (h .count) old-desk old-kind caused (omega arith)
 
   up-to : (e f : ℕ) → f < h .count → Upto h e f → Upto (logged h j w r) e f
   up-to e f b (inl q) = inl q
@@ -123,23 +132,25 @@ module _ (X : Setup) (h : Log) (c : Causal X h) (j : ℕ) (w : Kind) (r : Row) (
 
   -- the last link of a chain to the new event
   last-link : {g f : ℕ} → Link (logged h j w r) g f → f ≡ h .count → g < h .count → (h .desk g ≡ j) ⊎ (cause w ≡ some g)
-  last-link (desk-link {e = g} {f = f} l q) e b =
-      inl (sym (old-desk g b) ∙ q ∙ ap ((logged h j w r) .desk) e ∙ put-same (h .desk) (h .count) j)
-  last-link (mail-link {e = g} {f = f} q) e b =
+  last-link (desk-link {e = g} {f = f} l m q) e b =
+      let d = old-desk g b in
+      let d′ : (logged h j w r) .desk f ≡ j = ap ((logged h j w r) .desk) e ∙ put-same (h .desk) (h .count) j in
+      inl cc
+  last-link (mail-link {e = g} {f = f} m q) e b =
       inr (ap cause (sym (put-same (h .kind) (h .count) w) ∙ sym (ap ((logged h j w r) .kind) e)) ∙ q)
 
   last-step : {e f : ℕ} → Leads (logged h j w r) e f → f ≡ h .count
       → (g : ℕ) × (g < h .count) × Upto h e g × ((h .desk g ≡ j) ⊎ (cause w ≡ some g))
   last-step (one {e = e} {f = f} l) q =
-      let b : e < h .count = (let z = link-lt (logged h j w r) caused l (omega arith) in omega arith) in
+      let b : e < h .count = (let z = link-lt (logged h j w r) caused l in omega arith) in
       (e, b, inl refl, last-link l q b)
   last-step (more {e = e} {f = g} {g = f} a l) q =
-      let b : g < h .count = (let z = link-lt (logged h j w r) caused l (omega arith) in omega arith) in
+      let b : g < h .count = (let z = link-lt (logged h j w r) caused l in omega arith) in
       (g, b, inr (down e g a b), last-link l q b)
 
   new-link : (g : ℕ) → g < h .count → (h .desk g ≡ j) ⊎ (cause w ≡ some g) → Link (logged h j w r) g (h .count)
-  new-link g b (inl q) = desk-link b (old-desk g b ∙ q ∙ sym (put-same (h .desk) (h .count) j))
-  new-link g b (inr q) = mail-link (ap cause (put-same (h .kind) (h .count) w) ∙ q)
+  new-link g b (inl q) = let d = old-desk g b in let d′ = put-same (h .desk) (h .count) j in desk-link b (omega arith) cc
+  new-link g b (inr q) = mail-link {f = h .count} (omega arith) (ap cause (put-same (h .kind) (h .count) w) ∙ q)
 
   new-leads : (e g : ℕ) → g < h .count → Upto h e g → Link (logged h j w r) g (h .count) → Leads (logged h j w r) e (h .count)
   new-leads e g b (inl q) l = one (subst (λ x. Link (logged h j w r) x (h .count)) (sym q) l)
@@ -162,7 +173,7 @@ module _ (X : Setup) (h : Log) (c : Causal X h) (j : ℕ) (w : Kind) (r : Row) (
 
   no-later : (f : ℕ) → f < h .count → Upto (logged h j w r) (h .count) f → ⊥
   no-later f b (inl q) = omega arith
-  no-later f b (inr l) = let z = leads-lt (logged h j w r) caused l (omega arith) in omega arith
+  no-later f b (inr l) = let z = leads-lt (logged h j w r) caused l in omega arith
 
   old-new : (e : ℕ) → e < h .count → Upto (logged h j w r) e (h .count) → seen X h e e ≤ key X (r (h .desk e))
   old-new e a (inl q) = absurd (omega arith)
@@ -217,9 +228,12 @@ module _ (X : Setup) (h : Log) (c : Causal X h) (j : ℕ) (w : Kind) (r : Row) (
 
 -- Each desk's pairs rise; a row's entry for desk k is that of the last event of k up to it.
 module _ (X : Setup) (h : Log) (c : Causal X h) where
-  upto-le : (e f : ℕ) → f < h .count → Upto h e f → e ≤ f
-  upto-le e f b (inl q) = omega arith
-  upto-le e f b (inr l) = let z = leads-lt h (c .caused) l b in omega arith
+  upto-le : (e f : ℕ) → Upto h e f → e ≤ f
+  upto-le e f (inl q) = omega arith
+  upto-le e f (inr l) = let z = leads-lt h (c .caused) l in omega arith
+
+  upto-in : (e f : ℕ) → f < h .count → Upto h e f → e < h .count
+  upto-in e f b u = let z = upto-le e f u in omega arith
 
   pub rising : (e f : ℕ) → e < f → f < h .count → h .desk e ≡ h .desk f → Earlier (h .row e (h .desk e)) (h .row f (h .desk e))
   rising e f l b q =
@@ -230,7 +244,7 @@ module _ (X : Setup) (h : Log) (c : Causal X h) where
       go : e < h .count → (seen X h e e < seen X h e f) ⊎ (seen X h e f ≤ seen X h e e) → seen X h e e < seen X h e f
       go a (inl z) = z
       go a (inr z) =
-          absurd (let y = upto-le f e a (c .complete f e b a (subst (λ d. key X (h .row f d) ≤ key X (h .row e d)) q z)) in omega arith)
+          absurd (let y = upto-le f e (c .complete f e b a (subst (λ d. key X (h .row f d) ≤ key X (h .row e d)) q z)) in omega arith)
 
   pub entry : (f : ℕ) → f < h .count → (k : ℕ) → Never h f k ⊎ ((e : ℕ) × Last h f k e)
   entry f b k = go (c .origin f b k)
@@ -239,7 +253,8 @@ module _ (X : Setup) (h : Log) (c : Causal X h) where
       go (inl z) =
           inl (record {
             pair = z;
-            never = λ e a q u.
+            never = λ e q u.
+                let a = upto-in e f b u in
                 let x = c .sound e f a b u in
                 let y = c .positive e a in
                 let w : seen X h e f ≡ key X (zeros k) = ap (λ d. key X (h .row f d)) q ∙ ap (key X) z in
@@ -253,7 +268,9 @@ module _ (X : Setup) (h : Log) (c : Causal X h) where
               at = q;
               pair = z;
               leads = c .complete e f a b (let w : seen X h e e ≡ seen X h e f = rw q (ap (key X) z) in omega arith);
-              last = λ e′ a′ q′ u. upto-le e′ e a (c .complete e′ e a′ a
+              last = λ e′ q′ u.
+                  let a′ = upto-in e′ f b u in
+                  upto-le e′ e (c .complete e′ e a′ a
                   (let w : seen X h e′ e ≡ seen X h e′ f = rw q′ (ap (key X) z) in let x = c .sound e′ f a′ b u in omega arith));
             },
           )

@@ -84,16 +84,16 @@ module _ (X : Setup) (ok : Permitted X) (b : Tables) (h : History) (g : Good X b
       → seen X (h .log) e e ≤ key X (b .seat j .row (h .log .desk e))
   seat-tells j e x a l u q = go (b .seat j .started) (g .seats j)
     where
-      on : (y : ℕ) → x < y → h .log .desk y ≡ j → Upto (h .log) e x → Upto (h .log) e y
-      on y lt qy (inl z) = inr (one (desk-link {e = e} {f = y} (omega arith) (ap (h .log .desk) z ∙ q ∙ sym qy)))
-      on y lt qy (inr z) = inr (more z (desk-link lt (q ∙ sym qy)))
+      on : (y : ℕ) → x < y → y < h .log .count → h .log .desk y ≡ j → Upto (h .log) e x → Upto (h .log) e y
+      on y lt ly qy (inl z) = let d = ap (h .log .desk) z in inr (one (desk-link {e = e} {f = y} (omega arith) ly cc))
+      on y lt ly qy (inr z) = inr (more z (desk-link lt ly cc))
 
       go : (t : Bool) → SeatOf (h .log) j (h .last j) t (b .seat j .row) → seen X (h .log) e e ≤ key X (b .seat j .row (h .log .desk e))
       go true s = rw (s .2) at (g .causal .sound e (h .last j) a (s .0) (to (ℕ-discrete x (h .last j))))
         where
           to : Dec (x ≡ h .last j) → Upto (h .log) e (h .last j)
           to (yes z) = subst (λ y. Upto (h .log) e y) z u
-          to (no z) = on (h .last j) (let w = s .3 x l q in omega arith) (s .1) u
+          to (no z) = on (h .last j) (let w = s .3 x l q in omega arith) (s .0) (s .1) u
       go false s = absurd (s .1 x l q)
 
   seat-from : (j k : ℕ) → Origin (h .log) k (b .seat j .row k)

@@ -5,7 +5,7 @@
 --   Log            the accepted events since the last accepted start, numbered from 0
 --   History        a log, and the event behind each mail place, each slot and each started seat
 --   none-yet       the history after a start
---   Link, Leads    a link from event to event; a chain of links
+--   Link, Leads    a link from event to event of the log; a chain of links
 --   logged h j w r the log with one more event: at desk j, of kind w, which leaves row r
 --   noted          the history with that event, and the mail's events as given
 --   adds h b c     the history after an accepted act
@@ -76,10 +76,10 @@ none-yet =
       last = λ j. 0;
     }
 
--- each link goes to a later event at the same desk, or from a send to the receipt of that mail
+-- each link goes to a later event of the log at the same desk, or from a send to the receipt of that mail
 pub data Link (h : Log) : ℕ → ℕ → Type 0 where
-  desk-link : {e f : ℕ} → e < f → h .desk e ≡ h .desk f → Link h e f
-  mail-link : {e f : ℕ} → cause (h .kind f) ≡ some e → Link h e f
+  desk-link : {e f : ℕ} → e < f → f < h .count → h .desk e ≡ h .desk f → Link h e f
+  mail-link : {e f : ℕ} → f < h .count → cause (h .kind f) ≡ some e → Link h e f
 
 pub data Leads (h : Log) : ℕ → ℕ → Type 0 where
   one : {e f : ℕ} → Link h e f → Leads h e f

@@ -24,11 +24,11 @@ pub record Last (h : Log) (f k e : ℕ) : Type 0 where
   pub at : h .desk e ≡ k
   pub leads : Upto h e f
   pub pair : h .row e k ≡ h .row f k
-  pub last : (e′ : ℕ) → e′ < h .count → h .desk e′ ≡ k → Upto h e′ f → e′ ≤ e
+  pub last : (e′ : ℕ) → h .desk e′ ≡ k → Upto h e′ f → e′ ≤ e
 
 pub record Never (h : Log) (f k : ℕ) : Type 0 where
   pub pair : h .row f k ≡ zeros k
-  pub never : (e : ℕ) → e < h .count → h .desk e ≡ k → Upto h e f → ⊥
+  pub never : (e : ℕ) → h .desk e ≡ k → Upto h e f → ⊥
 
 abbrev pub Rises : Log → Type 0
 Rises h =
