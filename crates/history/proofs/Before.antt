@@ -21,7 +21,7 @@ use Rattle.history.specs.Demand.{InReach, BeforeIs, CompareIs, Stands}
 use Rattle.tools.proofs.Tests.{and-true-l, and-true-r}
 use Rattle.history.proofs.Keys.{key, Differ, gap-key, same-key}
 use Rattle.rules.specs.Model.{phases}
-use Rattle.history.proofs.Bounded.{NearRow}
+use Rattle.history.specs.Lags.{Past}
 use Rattle.history.specs.Vector.{Upto}
 use Rattle.history.proofs.Causal.{seen, Causal, leads-lt}
 use Rattle.history.proofs.Good.{Behind, Good}
@@ -161,9 +161,9 @@ apart e = omega arith
 clash : (t : Bool) → t ≡ true → t ≡ false → ⊥
 clash t p q = mathlib.Core.Bool.true≢false (sym p ∙ q)
 
--- two events whose rows lag at most A in a book
+-- two events whose rows are not ahead of a book
 module _ (X : Setup) (h : Log) (c : Causal X h) (b : Tables) (x y : ℕ) (lx : x < h .count) (ly : y < h .count)
-    (nx : NearRow (phases b) (X .shelfLag) (h .row x)) (ny : NearRow (phases b) (X .shelfLag) (h .row y)) where
+    (nx : Past b (h .row x)) (ny : Past b (h .row y)) where
   abbrev lag-gap : Gap
   lag-gap =
       record { up = phases b (h .desk x) - h .row x (h .desk x) .phase; down = phases b (h .desk x) - h .row y (h .desk x) .phase }
@@ -201,7 +201,7 @@ module _ (X : Setup) (h : Log) (c : Causal X h) (b : Tables) (x y : ℕ) (lx : x
           }
 
 module _ (X : Setup) (h : Log) (c : Causal X h) (b : Tables) (x y : ℕ) (lx : x < h .count) (ly : y < h .count)
-    (nx : NearRow (phases b) (X .shelfLag) (h .row x)) (ny : NearRow (phases b) (X .shelfLag) (h .row y)) where
+    (nx : Past b (h .row x)) (ny : Past b (h .row y)) where
   abbrev to-y : Option Gap
   to-y = gap line X b (h .desk x) (h .row x) (h .row y)
 
@@ -237,10 +237,10 @@ module _ (X : Setup) (h : Log) (c : Causal X h) (b : Tables) (x y : ℕ) (lx : x
 
 module _ (X : Setup) (ok : Permitted X) (b : Tables) (h : History) (g : Good X b h) where
   -- what a used slot holds
-  slot-of : (s : ℕ) (e : Held) → b .shelf s ≡ some e → (s < 32) × NearRow (phases b) (X .shelfLag) (e .row) × Behind (h .log) (h .kept s) e
+  slot-of : (s : ℕ) (e : Held) → b .shelf s ≡ some e → (s < 32) × Past b (e .row) × Behind (h .log) (h .kept s) e
   slot-of s e p =
-      let n = (rw p at (g .bounded .shelf s)) in
-      (n .0, n .1, rw p at (g .shelf s))
+      let n = rw p at (g .bounded .near .shelf s) in
+      (n .0, rw p at (g .bounded .past .shelf s), rw p at (g .shelf s))
 
   module _ (s t : ℕ) (e f : Held) (p : b .shelf s ≡ some e) (q : b .shelf t ≡ some f) where
     step-before : step line X b (before s t)

@@ -1,4 +1,4 @@
--- On the line every lag stays within what the setup permits.
+-- On the line no phase is later than its desk's own one, and every lag stays within what the setup permits.
 -- Assumes nothing.
 use mathlib.Core.Path.{_≡_, refl, ap, sym, subst, fun-ext}
 use mathlib.Core.Bool.{Bool, true, false}
@@ -14,14 +14,16 @@ use Rattle.rules.specs.declared.Setup.{Setup}
 use Rattle.tools.specs.Tests.{pick}
 use Rattle.tools.specs.Tables.{put}
 use Rattle.rules.specs.Model.{Row, Seat, Held, Tables, Act, local, reset, keep, drop, discard, send, receive, ask}
-use Rattle.rules.specs.Model.{done, why, fresh, grown, merged, turned, seated, freeMail, freeSlot, rowIn, used}
+use Rattle.rules.specs.Model.{done, why, fresh, grown, merged, turned, seated, freeMail, freeSlot, rowIn}
 use Rattle.rules.specs.Model.{own, lags, seatLags, tick, turn}
 use Rattle.tools.specs.Tables.{Each}
 use Rattle.tools.proofs.Tables.{put-all, put-both, put-same}
 use Rattle.ring.proofs.Ring.{later-lag}
+use Rattle.history.specs.Lags.{NoneAhead}
+use Rattle.history.proofs.Past.{fresh-past, done-past}
 
 abbrev pub Near : ℕ → ℕ → ℕ → Type 0
-Near o B v = (v ≤ o) × (o ≤ v + B)
+Near o B v = o ≤ v + B
 
 abbrev pub NearRow : (ℕ → ℕ) → ℕ → Row → Type 0
 NearRow o B r = (k : ℕ) → Near (o k) B (r k .phase)
@@ -35,11 +37,16 @@ pub record Within (X : Setup) (o : ℕ → ℕ) (b : Tables) : Type 0 where
   pub mail : (p : ℕ) → Each (NearAt o (2 * X .seatLag) p) (b .mail p)
   pub shelf : (s : ℕ) → Each (NearAt o (X .shelfLag) s) (b .shelf s)
 
-abbrev pub Bounded : Setup → Tables → Type 0
-Bounded X b = Within X (phases b) b
+abbrev InLag : Setup → Tables → Type 0
+InLag X b = Within X (phases b) b
+
+pub record Bounded (X : Setup) (b : Tables) : Type 0 where
+  pub past : NoneAhead b
+  pub near : InLag X b
 
 pub fresh-bounded : (X : Setup) → Bounded X fresh
-fresh-bounded X = record { seats = λ s h k. (omega arith, omega arith); mail = λ p. tt; shelf = λ s. tt }
+fresh-bounded X =
+    record { past = fresh-past; near = record { seats = λ s h k. omega arith; mail = λ p. tt; shelf = λ s. tt } }
 
 -- an event that keeps j's own phase keeps every own phase
 same-phases : (b : Tables) (j : ℕ) (r : Row) → r j .phase ≡ phases b j
@@ -47,12 +54,12 @@ same-phases : (b : Tables) (j : ℕ) (r : Row) → r j .phase ≡ phases b j
 same-phases b j r e =
     put-all (λ k (s : Seat). s .row k .phase ≡ phases b k) (b .seat) j (record { started = true; row = r }) e (λ k h. refl)
 
-module _ (X : Setup) (ok : Permitted X) (b : Tables) (w : Bounded X b) where
+module _ (X : Setup) (ok : Permitted X) (b : Tables) (w : InLag X b) where
   -- an event at j that leaves the own phases: seats and shelf as they were but for j's row
   quiet : (j : ℕ) (r : Row) (mail : ℕ → Option Held) → r j .phase ≡ phases b j
       → NearRow (phases b) (X .seatLag) r
       → ((p : ℕ) → Each (NearAt (phases b) (2 * X .seatLag) p) (mail p))
-      → Bounded X (record { seat = seated b j r; mail = mail; shelf = b .shelf })
+      → InLag X (record { seat = seated b j r; mail = mail; shelf = b .shelf })
   quiet j r mail e near posts =
       subst (λ o. Within X o (record { seat = seated b j r; mail = mail; shelf = b .shelf }))
       (sym (fun-ext (same-phases b j r e)))
@@ -66,7 +73,7 @@ module _ (X : Setup) (ok : Permitted X) (b : Tables) (w : Bounded X b) where
   grown-near : (j : ℕ) → j < X .desks → NearRow (phases b) (X .seatLag) (grown b j)
   grown-near j h =
       put-all (λ k (q : Pair). Near (phases b k) (X .seatLag) (q .phase)) (b .seat j .row) j (tick (own b j))
-      (omega arith, omega arith) (λ k h′. w .seats j h k)
+      (omega arith) (λ k h′. w .seats j h k)
 
   grown-own : (j : ℕ) → (grown b j) j .phase ≡ phases b j
   grown-own j = ap (λ (q : Pair). q .phase) (put-same (b .seat j .row) j (tick (own b j)))
@@ -75,26 +82,18 @@ module _ (X : Setup) (ok : Permitted X) (b : Tables) (w : Bounded X b) where
   merged-own j m =
       ap (λ (q : Pair). q .phase) (put-same (λ k. later line (phases b k) (b .seat j .row k) (m k)) j (tick (own b j)))
 
-  later-near : (o B : ℕ) (x y : Pair) → Near o B (x .phase) → y .phase ≤ o → Near o B (later line o x y .phase)
-  later-near o B x y n h = go (isLater line o y x) refl
+  later-near : (o B : ℕ) (x y : Pair) → Near o B (x .phase) → Near o B (later line o x y .phase)
+  later-near o B x y n = go (isLater line o y x) refl
     where
       go : (t : Bool) → isLater line o y x ≡ t → Near o B ((pick t y x) .phase)
       go false e = n
-      go true e = (h, let l = later-lag line o x y e in omega arith)
+      go true e = let l = later-lag line o x y e in omega arith
 
-  merged-near : (j : ℕ) → j < X .desks → (m : Row) → NearRow (phases b) (2 * X .seatLag) m
-      → NearRow (phases b) (X .seatLag) (merged line b j m)
-  merged-near j h m n =
+  merged-near : (j : ℕ) → j < X .desks → (m : Row) → NearRow (phases b) (X .seatLag) (merged line b j m)
+  merged-near j h m =
       put-all (λ k (q : Pair). Near (phases b k) (X .seatLag) (q .phase)) (λ k. later line (phases b k) (b .seat j .row k) (m k)) j
       (tick (own b j))
-      (omega arith, omega arith) (λ k h′. later-near (phases b k) (X .seatLag) (b .seat j .row k) (m k) (w .seats j h k) (n k .0))
-
-  pub mail-near : (p : ℕ) → used (b .mail p) ≡ true → NearRow (phases b) (2 * X .seatLag) (rowIn (b .mail p))
-  mail-near p u = go (b .mail p) (w .mail p) u
-    where
-      go : (o : Option Held) → Each (NearAt (phases b) (2 * X .seatLag) p) o → used o ≡ true → NearRow (phases b) (2 * X .seatLag) (rowIn o)
-      go none n u = absurd (mathlib.Core.Bool.false≢true u)
-      go (some m) n u = n .1
+      (omega arith) (λ k h′. later-near (phases b k) (X .seatLag) (b .seat j .row k) (m k) (w .seats j h k))
 
   reset-held : (j B p : ℕ) (o : Option Held) → Each (NearAt (phases b) B p) o → (p < 32 → lags line b j B o ≡ false)
       → Each (NearAt (put (phases b) j (phases b j + 1)) B p) o
@@ -102,7 +101,7 @@ module _ (X : Setup) (ok : Permitted X) (b : Tables) (w : Bounded X b) where
   reset-held j B p (some m) n h = (
     n .0,
     put-all (λ k o. Near o B (m .row k .phase)) (phases b) j (phases b j + 1)
-        (let z : phases b j - m .row j .phase ≡ B → ⊥ = eqb-false _ _ (h (n .0)) in let a = n .1 j in (omega arith, omega arith))
+        (let z : phases b j - m .row j .phase ≡ B → ⊥ = eqb-false _ _ (h (n .0)) in let a = n .1 j in omega arith)
         (λ k h′. n .1 k),
   )
 
@@ -112,35 +111,35 @@ module _ (X : Setup) (ok : Permitted X) (b : Tables) (w : Bounded X b) where
       put-all (λ s (t : Seat). s < X .desks → NearRow (put (phases b) j (phases b j + 1)) (X .seatLag) (t .row)) (b .seat) j
       (record { started = true; row = turned line b j })
       (λ l. put-both (λ k (q : Pair) o. Near o (X .seatLag) (q .phase)) (b .seat j .row) (phases b) j (turn line (own b j))
-      (phases b j + 1) (omega arith, omega arith) (λ k h′. w .seats j l k))
+      (phases b j + 1) (omega arith) (λ k h′. w .seats j l k))
       (λ s ne l. put-all (λ k o. Near o (X .seatLag) (b .seat s .row k .phase)) (phases b) j (phases b j + 1)
       (let z : phases b j - b .seat s .row j .phase ≡ X .seatLag → ⊥ = eqb-false _ _ (rw (ne-eqb s j ne) at (h s l)) in
-      let a = w .seats s l j in (omega arith, omega arith))
+      let a = w .seats s l j in omega arith)
       (λ k h′. w .seats s l k))
 
-  pub reset-own : (j : ℕ) → phases (record { seat = seated b j (turned line b j); mail = b .mail; shelf = b .shelf })
+  reset-own : (j : ℕ) → phases (record { seat = seated b j (turned line b j); mail = b .mail; shelf = b .shelf })
       ≡ put (phases b) j (phases b j + 1)
   reset-own j =
       fun-ext (put-both (λ k (s : Seat) o. s .row k .phase ≡ o) (b .seat) (phases b) j
       (record { started = true; row = turned line b j }) (phases b j + 1)
       (ap (λ (q : Pair). q .phase) (put-same (b .seat j .row) j (turn line (own b j)))) (λ k h. refl))
 
-  pub bounded-done : (c : Act) → why line X b c ≡ 0 → Bounded X ((done line X b c) .tables)
+  near-done : (c : Act) → why line X b c ≡ 0 → InLag X ((done line X b c) .tables)
   unfolding done
-  bounded-done (local j) e =
+  near-done (local j) e =
       let n = no-local line X b j e in
       quiet j (grown b j) (b .mail) (grown-own j) (grown-near j (n .0)) (w .mail)
-  bounded-done (send j k) e =
+  near-done (send j k) e =
       let n = no-send line X b j k e in
       quiet j (grown b j) _ (grown-own j) (grown-near j (n .0))
       (put-all (λ p o. Each (NearAt (phases b) (2 * X .seatLag) p) o) (b .mail) (freeMail b) _
-      (n .2, λ k. let a = grown-near j (n .0) k in (omega arith, omega arith)) (λ p h. w .mail p))
-  bounded-done (receive j p) e =
+      (n .2, λ k. let a = grown-near j (n .0) k in omega arith) (λ p h. w .mail p))
+  near-done (receive j p) e =
       let n = no-receive line X b j p e in
       quiet j (merged line b j (rowIn (b .mail p))) _ (merged-own j (rowIn (b .mail p)))
-      (merged-near j (n .0) (rowIn (b .mail p)) (mail-near p (n .1)))
+      (merged-near j (n .0) (rowIn (b .mail p)))
       (put-all (λ p o. Each (NearAt (phases b) (2 * X .seatLag) p) o) (b .mail) p none tt (λ p h. w .mail p))
-  bounded-done (reset j) e =
+  near-done (reset j) e =
       let n = no-reset line X b j e in
       subst (λ o. Within X o (record { seat = seated b j (turned line b j); mail = b .mail; shelf = b .shelf }))
       (sym (reset-own j))
@@ -149,24 +148,28 @@ module _ (X : Setup) (ok : Permitted X) (b : Tables) (w : Bounded X b) where
         mail = λ p. reset-held j (2 * X .seatLag) p (b .mail p) (w .mail p) (n .2 p);
         shelf = λ p. reset-held j (X .shelfLag) p (b .shelf p) (w .shelf p) (n .3 p);
       })
-  bounded-done (keep j) e =
+  near-done (keep j) e =
       let n = no-keep line X b j e in
       record {
         seats = w .seats;
         mail = w .mail;
         shelf = put-all (λ s o. Each (NearAt (phases b) (X .shelfLag) s) o) (b .shelf) (freeSlot b) _
-            (n .2, λ k. let a = w .seats j (n .0) k in let q = ok .kept in (omega arith, omega arith)) (λ s h. w .shelf s);
+            (n .2, λ k. let a = w .seats j (n .0) k in let q = ok .kept in omega arith) (λ s h. w .shelf s);
       }
-  bounded-done (drop s) e =
+  near-done (drop s) e =
       record {
         seats = w .seats;
         mail = w .mail;
         shelf = put-all (λ s o. Each (NearAt (phases b) (X .shelfLag) s) o) (b .shelf) s none tt (λ s h. w .shelf s);
       }
-  bounded-done (discard p) e =
+  near-done (discard p) e =
       record {
         seats = w .seats;
         shelf = w .shelf;
         mail = put-all (λ s o. Each (NearAt (phases b) (2 * X .seatLag) s) o) (b .mail) p none tt (λ s h. w .mail s);
       }
-  bounded-done (ask q) e = w
+  near-done (ask q) e = w
+
+pub bounded-done : (X : Setup) → Permitted X → (b : Tables) → Bounded X b → (c : Act) → why line X b c ≡ 0
+    → Bounded X ((done line X b c) .tables)
+bounded-done X ok b w c e = record { past = done-past line (λ v. omega arith) b (w .past) X c; near = near-done X ok b (w .near) c e }

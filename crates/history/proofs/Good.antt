@@ -4,7 +4,7 @@ use mathlib.Core.Path.{_≡_, refl, ap, sym, _∙_, subst}
 use mathlib.Core.Bool.{Bool, true, false}
 use mathlib.Core.Option.{Option, none, some}
 use mathlib.Core.Logic.{_⊎_, inl, inr}
-use Prim.Native.Nat.{ℕ, zero, suc, _+_, _*_, _≤_, _<_}
+use Prim.Native.Nat.{ℕ, zero, suc, _+_, _≤_, _<_}
 use native.Mathlib.Omega.{arith}
 use native.Mathlib.Decide.{ℕ-discrete}
 use lib.Dec.{ltb}
@@ -23,7 +23,8 @@ use Rattle.history.specs.History.{adds}
 use Rattle.tools.proofs.Tables.{put-all, put-both, put-same, put-other, Each-map, none-some}
 use Rattle.history.proofs.Keys.{key, later-key, tick-key, turn-key}
 use Rattle.rules.specs.Model.{phases}
-use Rattle.history.proofs.Bounded.{NearRow, Bounded, mail-near, bounded-done, fresh-bounded}
+use Rattle.history.specs.Lags.{Past}
+use Rattle.history.proofs.Bounded.{Bounded, bounded-done, fresh-bounded}
 use Rattle.rules.proofs.Accepted.{no-local, no-send, no-receive, no-keep}
 use Rattle.history.specs.Vector.{Upto}
 use Rattle.history.proofs.Causal.{Origin, seen, Causal, Fits, old-desk, old-row, causal-next, below}
@@ -138,8 +139,7 @@ module _ (X : Setup) (ok : Permitted X) (b : Tables) (h : History) (g : Good X b
       go true p = let z = ltb-true (key X x) (key X y) (sym p) in (omega arith, omega arith, inr refl)
       go false p = let z = ltb-false (key X x) (key X y) (sym p) in (omega arith, omega arith, inl refl)
 
-  module _ (j x : ℕ) (m : Row) (lj : j < X .desks) (lx : x < h .log .count) (is : h .log .row x ≡ m)
-      (near : NearRow (phases b) (2 * X .seatLag) m) where
+  module _ (j x : ℕ) (m : Row) (lx : x < h .log .count) (is : h .log .row x ≡ m) (past : Past b m) where
     m-clock : (k : ℕ) → m k .clock < X .clocks
     m-clock k = rw is at (g .causal .clocks x lx k)
 
@@ -147,7 +147,7 @@ module _ (X : Setup) (ok : Permitted X) (b : Tables) (h : History) (g : Good X b
         × (key X (m k) ≤ key X (later line (phases b k) (b .seat j .row k) (m k)))
         × ((later line (phases b k) (b .seat j .row k) (m k) ≡ b .seat j .row k) ⊎ (later line (phases b k) (b .seat j .row k) (m k) ≡ m k))
     at-k k =
-        later-is (phases b k) (b .seat j .row k) (m k) (g .bounded .seats j lj k .0) (near k .0) (seat-clock j k) (m-clock k)
+        later-is (phases b k) (b .seat j .row k) (m k) (g .bounded .past .seats j k) (past k) (seat-clock j k) (m-clock k)
 
     r-other : (k : ℕ) → (k ≡ j → ⊥) → merged line b j m k ≡ later line (phases b k) (b .seat j .row k) (m k)
     r-other k ne = put-other (λ k. later line (phases b k) (b .seat j .row k) (m k)) j (tick (own b j)) k ne
@@ -300,9 +300,9 @@ module _ (X : Setup) (ok : Permitted X) (b : Tables) (h : History) (g : Good X b
   good-done (receive j p) e bd =
       let n = no-receive line X b j p e in
       let m = mail-of p (n .1) in
-      let near = mail-near X ok b (g .bounded) p (n .1) in
-      let fit = merging j (h .mailed p) (rowIn (b .mail p)) (n .0) (m .0) (m .1) near (n .2) in
-      let less = merged-known j (h .mailed p) (rowIn (b .mail p)) (n .0) (m .0) (m .1) near in
+      let past = g .bounded .past .mail p in
+      let fit = merging j (h .mailed p) (rowIn (b .mail p)) (m .0) (m .1) past (n .2) in
+      let less = merged-known j (h .mailed p) (rowIn (b .mail p)) (m .0) (m .1) past in
       good-event j (Receive (h .mailed p)) (merged line b j (rowIn (b .mail p))) fit less (put (b .mail) p none) (h .mailed) bd
       (put-all (λ q (o : Option Held).
       Each (Behind (logged (h .log) j (Receive (h .mailed p)) (merged line b j (rowIn (b .mail p)))) (h .mailed q)) o) (b .mail) p none tt

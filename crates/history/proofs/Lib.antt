@@ -1,6 +1,8 @@
 -- Demand 3 on books without bytes.
+pub mod Past
 pub mod Bounded
 pub mod Map
+pub mod Lags
 pub mod Sim
 pub mod Keys
 pub mod Causal

@@ -25,11 +25,14 @@ use Rattle.rules.proofs.Accepted.{no-receive, no-ask}
 abbrev pub Keeps : Phases → Phases → (ℕ → ℕ → ℕ) → Tables → ℕ → ℕ → Type 0
 Keeps Z Y φ b k v = Z .lag (φ k (phases b k)) (φ k v) ≡ Y .lag (phases b k) v
 
+abbrev pub KeepsAll : Phases → Phases → (ℕ → ℕ → ℕ) → Tables → Held → Type 0
+KeepsAll Z Y φ b w = (k : ℕ) → Keeps Z Y φ b k (w .row k .phase)
+
 pub record Agrees (Z Y : Phases) (φ : ℕ → ℕ → ℕ) (X : Setup) (b : Tables) : Type 0 where
   pub nexts : (k v : ℕ) → Z .next (φ k v) ≡ φ k (Y .next v)
   pub seats : (s k : ℕ) → s < X .desks → Keeps Z Y φ b k (b .seat s .row k .phase)
-  pub mail : (p : ℕ) → Each (λ w. (p < 32) × ((k : ℕ) → Keeps Z Y φ b k (w .row k .phase))) (b .mail p)
-  pub shelf : (s : ℕ) → Each (λ w. (s < 32) × ((k : ℕ) → Keeps Z Y φ b k (w .row k .phase))) (b .shelf s)
+  pub mail : (p : ℕ) → Each (KeepsAll Z Y φ b) (b .mail p)
+  pub shelf : (s : ℕ) → Each (KeepsAll Z Y φ b) (b .shelf s)
 
 pub used-map : (φ : ℕ → ℕ → ℕ) (o : Option Held) → used (mapHeld φ o) ≡ used o
 used-map φ none = refl
@@ -52,21 +55,21 @@ row-map φ none u = absurd (mathlib.Core.Bool.false≢true u)
 row-map φ (some m) u = refl
 
 module _ (Z Y : Phases) (φ : ℕ → ℕ → ℕ) (X : Setup) (b : Tables) (w : Agrees Z Y φ X b) where
-  lag-held : (j B p : ℕ) (o : Option Held) → Each (λ w. (p < 32) × ((k : ℕ) → Keeps Z Y φ b k (w .row k .phase))) o
+  lag-held : (j B : ℕ) (o : Option Held) → Each (KeepsAll Z Y φ b) o
       → lags Z (mapTables φ b) j B (mapHeld φ o) ≡ lags Y b j B o
-  lag-held j B p none n = refl
-  lag-held j B p (some m) n = ap (λ l. eqb l B) (n .1 j)
+  lag-held j B none n = refl
+  lag-held j B (some m) n = ap (λ l. eqb l B) (n j)
 
   gap-held : (s t : ℕ) → gapHeld Z X (mapTables φ b) (mapHeld φ (b .shelf s)) (mapHeld φ (b .shelf t))
       ≡ gapHeld Y X b (b .shelf s) (b .shelf t)
   gap-held s t = go (b .shelf s) (b .shelf t) (w .shelf s) (w .shelf t)
     where
-      go : (e f : Option Held) → Each (λ w. (s < 32) × ((k : ℕ) → Keeps Z Y φ b k (w .row k .phase))) e
-          → Each (λ w. (t < 32) × ((k : ℕ) → Keeps Z Y φ b k (w .row k .phase))) f
+      go : (e f : Option Held) → Each (KeepsAll Z Y φ b) e
+          → Each (KeepsAll Z Y φ b) f
           → gapHeld Z X (mapTables φ b) (mapHeld φ e) (mapHeld φ f) ≡ gapHeld Y X b e f
       go none f p q = refl
       go (some e) none p q = refl
-      go (some e) (some f) p q = ap (near X) (λ i. record { up = p .1 (e .by) i; down = q .1 (e .by) i })
+      go (some e) (some f) p q = ap (near X) (λ i. record { up = p (e .by) i; down = q (e .by) i })
 
   ask-why : (q : Question) → why Z X (mapTables φ b) (ask q) ≡ why Y X b (ask q)
   unfolding reasons askReasons
@@ -85,9 +88,9 @@ module _ (Z Y : Phases) (φ : ℕ → ℕ → ℕ) (X : Setup) (b : Tables) (w :
       (λ s. not (eqb s j) && eqb (Y .lag (phases b j) (b .seat s .row j .phase)) (X .seatLag))
       (λ s l. ap (λ x. not (eqb s j) && eqb x (X .seatLag)) (w .seats s j l)) in
       let q = any-cong 32 (λ p. lags Z (mapTables φ b) j (2 * X .seatLag) (mapHeld φ (b .mail p)))
-      (λ p. lags Y b j (2 * X .seatLag) (b .mail p)) (λ p l. lag-held j (2 * X .seatLag) p (b .mail p) (w .mail p)) in
+      (λ p. lags Y b j (2 * X .seatLag) (b .mail p)) (λ p l. lag-held j (2 * X .seatLag) (b .mail p) (w .mail p)) in
       let r = any-cong 32 (λ p. lags Z (mapTables φ b) j (X .shelfLag) (mapHeld φ (b .shelf p)))
-      (λ p. lags Y b j (X .shelfLag) (b .shelf p)) (λ p l. lag-held j (X .shelfLag) p (b .shelf p) (w .shelf p)) in
+      (λ p. lags Y b j (X .shelfLag) (b .shelf p)) (λ p l. lag-held j (X .shelfLag) (b .shelf p) (w .shelf p)) in
       rw (p, q, r)
   why-map (keep j) = simp used-map
   why-map (drop s) = simp used-map
@@ -141,10 +144,10 @@ module _ (Z Y : Phases) (φ : ℕ → ℕ → ℕ) (X : Setup) (b : Tables) (w :
   mail-keeps : (p : ℕ) → used (b .mail p) ≡ true → (k : ℕ) → Keeps Z Y φ b k (rowIn (b .mail p) k .phase)
   mail-keeps p u = go (b .mail p) (w .mail p) u
     where
-      go : (o : Option Held) → Each (λ w. (p < 32) × ((k : ℕ) → Keeps Z Y φ b k (w .row k .phase))) o → used o ≡ true
+      go : (o : Option Held) → Each (KeepsAll Z Y φ b) o → used o ≡ true
           → (k : ℕ) → Keeps Z Y φ b k (rowIn o k .phase)
       go none n u = absurd (mathlib.Core.Bool.false≢true u)
-      go (some m) n u = n .1
+      go (some m) n u = n
 
   free-mail : freeMail (mapTables φ b) ≡ freeMail b
   free-mail = simp used-map
