@@ -1,7 +1,7 @@
 -- DEMAND 3 over bytes, stamps off the book: records of stamps that a run has given out, read under its setup.
 -- Assumes nothing.
 use mathlib.Core.Path.{_≡_, refl, ap, sym, _∙_, subst}
-use mathlib.Core.Bool.{true, false≢true}
+use mathlib.Core.Bool.{Bool, true, false, false≢true}
 use mathlib.Core.Option.{Option, none, some}
 use mathlib.Core.List.{List, _∷_}
 use Prim.Native.Nat.{ℕ, zero, suc, _<_, _≤_}
@@ -9,7 +9,7 @@ use native.Mathlib.Omega.{arith}
 use borrow.Author.Tests.{lt-ltb, le-ltb}
 use mathlib.Core.Logic.{⊎-elim}
 use lib.ListN.{length}
-use Rattle.tools.specs.Tests.{allOf}
+use Rattle.tools.specs.Tests.{pick, allOf}
 use Rattle.tools.proofs.Tests.{lt-or-le}
 use Rattle.tools.specs.Tables.{Each}
 use Rattle.tools.proofs.Tables.{put-same, some-is, none-some}
@@ -17,7 +17,8 @@ use Rattle.ring.specs.Phases.{Pair, ring}
 use Rattle.rules.specs.declared.Setup.{Setup}
 use Rattle.rules.specs.Model.{Row, Seat, Held, Tables, Label, Question, slotAsked, Value}
 use Rattle.rules.specs.Model.{Act, local, reset, keep, drop, discard, send, receive, ask, before, compare, write, slotOf}
-use Rattle.rules.specs.Model.{Answer, byIn, rowIn, used, why, askTells, done, step, settle}
+use Rattle.rules.specs.Numbers.{BadBook, number}
+use Rattle.rules.specs.Model.{Answer, refusal, byIn, rowIn, used, why, askTells, done, step, settle}
 use Rattle.rules.specs.Labels.{newestOff}
 use Rattle.book.specs.Fits.{PairFits, RowFits, SlotFits, Fits}
 use Rattle.rules.specs.Setups.{permits}
@@ -34,17 +35,18 @@ use Rattle.history.proofs.Runs.{after-append}
 use Rattle.history.proofs.Stamps.{next-setup, setup-stays}
 use Rattle.rules.proofs.Accepted.{no-local, no-send, no-receive, no-reset, no-ask, Hands, no-stamp, row-of, stamp-of, hands}
 use Rattle.book.proofs.Fits.{done-fits}
+use Rattle.book.specs.Sound.{sound}
 use Rattle.book.specs.Codec.{decode}
 use Rattle.book.specs.Stamps.{pairReads, writeStamp, readStamp, filled}
 use Rattle.labels.specs.Records.{Readable}
 use Rattle.labels.proofs.Records.{read-write}
-use Rattle.book.specs.Answers.{admits, answerTo, bookAfter, targetAfter, beforeOf, compareOf}
+use Rattle.book.specs.Answers.{admits, turnOn, answerTo, bookAfter, targetAfter, beforeOf, compareOf}
 use Rattle.book.specs.Numbers.{tablesOf, numberOf}
 use Rattle.book.proofs.Numbers.{accepted-answer, refused-answer}
 use Rattle.book.proofs.Soundness.{sound-setup, sound-fits}
 use Rattle.book.proofs.Answers.{answer-is}
 use Rattle.promises.specs.Runs.{bytesAfter}
-use Rattle.promises.specs.Records.{stampFrom, Recorded, NewestIs}
+use Rattle.promises.specs.Records.{stampFrom, Recorded, readUnder, NewestIs}
 use Rattle.promises.proofs.Together.{ring-answer, together-start}
 use Rattle.promises.proofs.Demand.{together}
 
@@ -116,6 +118,20 @@ module _ (X : Setup) (ok : Permitted X) (b : Tables) (w : Fits X b) where
       go zero z p = done-label c z e p
       go (suc n) z p = absurd (none-some p)
 
+-- every stamp that any call answers, on any bytes, reads again from its record, under the book's setup
+pub answered-reads : (s : List ℕ) (c : Act) (e : Label) → stampFrom s c ≡ some e
+    → readStamp (decode s .setup) (writeStamp (decode s .setup .desks) e) ≡ some e
+unfolding answerTo admits call
+answered-reads s c e = go (sound s) refl
+  where
+    go : (t : Bool) → sound s ≡ t
+        → stampIn (ownerAt (decode s .tables) (slotOf c)) (pick t (turnOn s (on c) .answer) (refusal (number BadBook)) .value) ≡ some e
+        → readStamp (decode s .setup) (writeStamp (decode s .setup .desks) e) ≡ some e
+    go false h p = absurd (none-some p)
+    go true h p =
+        let ok = permitted (decode s .setup) (sound-setup s h) in
+        read-write (decode s .setup) (ok .few) e (step-label (decode s .setup) ok (decode s .tables) (sound-fits s h) c e p)
+
 -- the bytes that write fills in are the record of the stamp that it is answered
 pub written-record : (s : List ℕ) (i : ℕ) (t : List ℕ) (e : Label) → stampFrom s (write i (length t)) ≡ some e
     → targetAfter s i t ≡ filled t (writeStamp (decode s .setup .desks) e)
@@ -167,7 +183,7 @@ module _ (s : List ℕ) (X : Setup) (started : answerTo s (start X) .number ≡ 
         }
 
     -- the setup is that of the time when the stamp was given
-    same-setup : setupAfter X cs ≡ setupAfter X (k .earlier)
+    same-setup : readUnder X cs ≡ setupAfter X (k .earlier)
     unfolding after
     same-setup =
         let t = after (begin X) (k .earlier) in
@@ -175,41 +191,34 @@ module _ (s : List ℕ) (X : Setup) (started : answerTo s (start X) .number ≡ 
         ∙ ap (λ (u : State). u .book .setup) (after-append (begin X) (k .earlier) (on (k .act) ∷ k .later))
         ∙ setup-stays (next t (on (k .act))) (k .later) (k .ongoing) ∙ next-setup t (k .act)
 
-    in-range : Readable (setupAfter X cs) (k .stamp)
-    unfolding call admits
-    in-range =
-        let w = together s X started (k .earlier) in
-        subst (λ (Y : Setup). Readable Y (k .stamp)) (ap (λ (b : Book). b .setup) (w .told) ∙ sym same-setup)
-        (step-label (decode then .setup) (permitted (decode then .setup) (sound-setup then (w .whole))) (decode then .tables)
-        (sound-fits then (w .whole)) (k .act) (k .stamp)
-        (ap (λ (a : Answer). stampIn (ownerAt (decode then .tables) (slotOf (k .act))) (a .value))
-        (sym (answer-is then (on (k .act)) (w .whole))) ∙ k .given))
-
     -- and its record tells it again
-    reads : readStamp (setupAfter X cs) r ≡ some (k .stamp)
+    reads : readStamp (readUnder X cs) r ≡ some (k .stamp)
     reads =
-        subst (λ (q : List ℕ). readStamp (setupAfter X cs) q ≡ some (k .stamp)) (k .written)
-        (read-write (setupAfter X cs) few (k .stamp) in-range)
+        let w = together s X started (k .earlier) in
+        subst (λ (q : List ℕ). readStamp (readUnder X cs) q ≡ some (k .stamp)) (k .written)
+        (subst (λ (Y : Setup). readStamp Y (writeStamp (Y .desks) (k .stamp)) ≡ some (k .stamp))
+        (ap (λ (b : Book). b .setup) (w .told) ∙ sym same-setup)
+        (answered-reads then (k .act) (k .stamp) (k .given)))
 
   -- two records that the run has given out
   module _ (r q : List ℕ) (x y : ℕ) (a : Recorded s X cs r x) (c : Recorded s X cs q y) where
     -- Before says yes exactly when a chain leads from the one event to the other.
     pub records-before : InReach (setupAfter X cs) (logAfter X cs) x y
-        → BeforeSaid (logAfter X cs) x y (beforeOf (setupAfter X cs) r q)
+        → BeforeSaid (logAfter X cs) x y (beforeOf (readUnder X cs) r q)
     records-before l =
         rw (reads r x a, reads q y c) (off-before X fair cs x y (a .stamp) (c .stamp) (answered r x a) (answered q y c) l)
 
     -- Compare's word is how the one event stands to the other.
     pub records-compare : InReach (setupAfter X cs) (logAfter X cs) x y → InReach (setupAfter X cs) (logAfter X cs) y x
-        → CompareSaid (logAfter X cs) x y (compareOf (setupAfter X cs) r q)
+        → CompareSaid (logAfter X cs) x y (compareOf (readUnder X cs) r q)
     records-compare l m =
         rw (reads r x a, reads q y c) (off-compare X fair cs x y (a .stamp) (c .stamp) (answered r x a) (answered q y c) l m)
 
     -- Newest is the one that is after the other, the first if they are of one event, neither if they are concurrent.
     pub records-newest : InReach (setupAfter X cs) (logAfter X cs) x y → InReach (setupAfter X cs) (logAfter X cs) y x
-        → NewestIs (setupAfter X cs) (logAfter X cs) x y r q
+        → NewestIs (readUnder X cs) (logAfter X cs) x y r q
     records-newest l m = (
-      newestOff (setupAfter X cs) (readStamp (setupAfter X cs) r) (readStamp (setupAfter X cs) q),
+      newestOff (readUnder X cs) (readStamp (readUnder X cs) r) (readStamp (readUnder X cs) q),
       refl,
       rw (reads r x a, reads q y c) (off-newest X fair cs x y (a .stamp) (c .stamp) (answered r x a) (answered q y c) l m),
     )
@@ -220,7 +229,7 @@ module _ (s : List ℕ) (X : Setup) (started : answerTo s (start X) .number ≡ 
     slot-is k m p = ap (λ (b : Book). b .tables .shelf k) (sym (together s X started cs .told)) ∙ p
 
     slot-reads : (k : ℕ) (m : Held) → decode bytes .tables .shelf k ≡ some m
-        → readStamp (setupAfter X cs) (writeStamp (setupAfter X cs .desks) (labelHeld m)) ≡ some (labelHeld m)
+        → readStamp (readUnder X cs) (writeStamp (setupAfter X cs .desks) (labelHeld m)) ≡ some (labelHeld m)
     slot-reads k m p =
         let w = together s X started cs in
         read-write (setupAfter X cs) few (labelHeld m)
@@ -230,7 +239,7 @@ module _ (s : List ℕ) (X : Setup) (started : answerTo s (start X) .number ≡ 
 
     -- When the book accepts, the records get the same answer.
     pub same-off-before : answerTo bytes (on (before i j)) .number ≡ 0
-        → beforeOf (setupAfter X cs) (writeStamp (setupAfter X cs .desks) (labelHeld e)) (writeStamp (setupAfter X cs .desks) (labelHeld f))
+        → beforeOf (readUnder X cs) (writeStamp (setupAfter X cs .desks) (labelHeld e)) (writeStamp (setupAfter X cs .desks) (labelHeld f))
         ≡ answerTo bytes (on (before i j))
     same-off-before z =
         let w = together s X started cs in
@@ -239,7 +248,7 @@ module _ (s : List ℕ) (X : Setup) (started : answerTo s (start X) .number ≡ 
         (state-agree-before _ (w .faithful) i j e f (slot-is i e pe) (slot-is j f pf) (ap (λ (a : Answer). a .number) (sym g) ∙ z) ∙ sym g)
 
     pub same-off-compare : answerTo bytes (on (compare i j)) .number ≡ 0
-        → compareOf (setupAfter X cs) (writeStamp (setupAfter X cs .desks) (labelHeld e)) (writeStamp (setupAfter X cs .desks) (labelHeld f))
+        → compareOf (readUnder X cs) (writeStamp (setupAfter X cs .desks) (labelHeld e)) (writeStamp (setupAfter X cs .desks) (labelHeld f))
         ≡ answerTo bytes (on (compare i j))
     same-off-compare z =
         let w = together s X started cs in

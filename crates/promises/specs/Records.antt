@@ -3,6 +3,7 @@
 --   stampFrom s c        the stamp that the act c is answered on the bytes s: by an event, or by show or write of a slot
 --   Recorded s X cs r x  r is the record of a stamp that one of the calls cs was answered, the stamp of the event x; the calls
 --                        begin with an accepted start of X on the bytes s, and no later start is accepted
+--   readUnder X cs       the setup under which the records of the run are read: that of its last accepted start
 --   NewestIs X h x y r q  newest of the records r and q hands back that of the later event, the first's if they are one event
 use mathlib.Core.Path.{_≡_}
 use mathlib.Core.Option.{Option, some}
@@ -34,6 +35,9 @@ pub record Recorded (s : List ℕ) (X : Setup) (cs : List Call) (r : List ℕ) (
   pub given : stampFrom (bytesAfter (bookAfter s (start X)) earlier) act ≡ some stamp
   pub written : writeStamp (setupAfter X cs .desks) stamp ≡ r
   pub event : eventOf (after (begin X) earlier .history) act ≡ x
+
+abbrev pub readUnder : Setup → List Call → Setup
+readUnder X cs = setupAfter X cs
 
 abbrev pub NewestIs : Setup → Log → ℕ → ℕ → List ℕ → List ℕ → Type 0
 NewestIs X h x y r q = (w : Which) × (newestOf X r q ≡ newestPart w r q) × Newer h x y w
