@@ -1,7 +1,7 @@
 -- Two readings that meet the statement of read are equal.
 -- Assumes nothing.
 use Prim.Native.Nat.{ℕ}
-use mathlib.Core.Path.{_≡_, sym, ap, _∙_}
+use mathlib.Core.Path.{_≡_, sym, ap}
 use mathlib.Core.List.{List}
 use lib.ListN.{length}
 use Rattle.tools.proofs.Tables.{some-is, none-some}
@@ -28,5 +28,5 @@ reading-once r r′ e b b′ n n′ = go (r .who) (r .row) (r′ .who) (r′ .ro
     go (Refused m) l (Of j) l′ e b b′ n n′ = absurd (none-some (ap (λ (a : Answer). a .value .stamp) e))
     go (Refused m) l (Refused m′) l′ e b b′ n n′ =
         let v = ap (λ (a : Answer). a .number) e in
-        let s = b ∙ sym b′ in
+        let s : l ≡ l′ = cc in
         λ i. record { who = Refused (v i); row = s i }
