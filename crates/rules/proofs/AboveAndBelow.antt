@@ -1,0 +1,156 @@
+-- Above and below each edge, worked by hand: which setups are permitted, and which number each refusal is, in literal numbers.
+-- Assumes nothing.
+--   setup            the setup of the numbers D, P, L, M, A, m and n
+--   ends, held       not permitted below a range, permitted at both its ends, not permitted above; not permitted, then permitted
+--   Edges            each setup number below, at and above its range; each inequality just failed and just held
+--   pair v t         the pair v.t; row p q r, the row of three desks with these pairs; seat p q r, the seat of such a row
+--   X                the setup of the books; empty, a fresh book
+--   crowded          a book with no free place and no free slot, where at each desk some row lags as far as it may
+--   Numbers b ts     on the book b each call is answered by the number beside it
+--   stampAt v        a stamp of desk 0 with the phase v
+--   edges            the setup numbers
+--   empty-numbers, crowded-numbers, off-numbers   the answer numbers, on books and off
+--   other-numbers    the number for bytes that are no book, and the number for lines of the program
+use Prim.Native.Nat.{ℕ}
+use mathlib.Core.Path.{_≡_, refl}
+use mathlib.Core.Bool.{Bool, true, false}
+use mathlib.Core.Option.{Option, none, some}
+use mathlib.Core.List.{List, [], _∷_, map}
+use Rattle.tools.specs.Tests.{allOf, within, any, lowest}
+use Rattle.tools.specs.Tables.{put}
+use Rattle.ring.specs.Phases.{Pair}
+use Rattle.rules.specs.declared.Setup.{Setup}
+use Rattle.rules.specs.Setups.{permits, inRange, related}
+use Rattle.rules.specs.Numbers.{BadBook, BadLine, number}
+use Rattle.rules.specs.Model.{Row, Seat, Label, local, reset, keep, drop, discard, send, receive, before, write}
+use Rattle.rules.specs.Model.{zeros, idle, askReasons, reasons, done, step}
+use Rattle.rules.specs.Calls.{Book, Call, start, on, freshBook, ringOf, call}
+use Rattle.rules.specs.Labels.{beforeOff, compareOff}
+
+abbrev setup : ℕ → ℕ → ℕ → ℕ → ℕ → ℕ → ℕ → Setup
+setup D P L M A m n =
+    record { desks = D; phases = P; clocks = L; seatLag = M; shelfLag = A; back = m; ahead = n }
+
+abbrev ends : List Bool
+ends = false ∷ true ∷ true ∷ false ∷ []
+
+abbrev held : List Bool
+held = false ∷ true ∷ []
+
+pub record Edges : Type 0 where
+  pub D : map (λ D. permits (setup D 20 10 4 8 5 5)) (1 ∷ 2 ∷ 8 ∷ 9 ∷ []) ≡ ends
+  pub P : map (λ P. permits (setup 3 P 10 1 1 1 1)) (2 ∷ 3 ∷ 255 ∷ 256 ∷ []) ≡ ends
+  pub L : map (λ L. permits (setup 3 20 L 4 8 5 5)) (1 ∷ 2 ∷ 255 ∷ 256 ∷ []) ≡ ends
+  pub M : map (λ M. permits (setup 3 255 10 M 200 5 5)) (0 ∷ 1 ∷ 127 ∷ 128 ∷ []) ≡ ends
+  pub A : map (λ A. permits (setup 3 255 10 1 A 5 5)) (0 ∷ 1 ∷ 254 ∷ 255 ∷ []) ≡ ends
+  pub m : map (λ m. permits (setup 3 255 10 4 8 m 5)) (0 ∷ 1 ∷ 127 ∷ 128 ∷ []) ≡ ends
+  pub n : map (λ n. permits (setup 3 255 10 4 8 5 n)) (0 ∷ 1 ∷ 127 ∷ 128 ∷ []) ≡ ends
+  -- A >= M, P >= 2M+1, P >= A+1, P >= m+n-1
+  pub A-M : map (λ A. permits (setup 3 255 10 50 A 5 5)) (49 ∷ 50 ∷ []) ≡ held
+  pub P-M : map (λ P. permits (setup 3 P 10 50 60 5 5)) (100 ∷ 101 ∷ []) ≡ held
+  pub P-A : map (λ P. permits (setup 3 P 10 4 70 5 5)) (70 ∷ 71 ∷ []) ≡ held
+  pub P-mn : map (λ P. permits (setup 3 P 10 4 8 30 50)) (78 ∷ 79 ∷ []) ≡ held
+
+pub edges : Edges
+unfolding permits inRange related allOf within
+edges =
+    record {
+      D = refl;
+      P = refl;
+      L = refl;
+      M = refl;
+      A = refl;
+      m = refl;
+      n = refl;
+      A-M = refl;
+      P-M = refl;
+      P-A = refl;
+      P-mn = refl;
+    }
+
+abbrev pair : ℕ → ℕ → Pair
+pair v t = record { phase = v; clock = t }
+
+abbrev row : Pair → Pair → Pair → Row
+row p q r = put (put (put zeros 0 p) 1 q) 2 r
+
+abbrev X : Setup
+X = setup 3 5 4 2 4 2 2
+
+abbrev empty : Book
+empty = freshBook X
+
+abbrev seat : Pair → Pair → Pair → Seat
+seat p q r = record { started = true; row = row p q r }
+
+-- at desk 0 the seat of desk 1 lags 2, at desk 1 the mail lags 4, at desk 2 slot 0 lags 4; slots 0 and 1 are 2 apart at desk 0
+abbrev crowded : Book
+crowded =
+    record {
+      setup = X;
+      tables = record {
+        seat = put (put (put (λ j. idle) 0 (seat (pair 4 1) (pair 3 0) (pair 4 0)))
+            1 (seat (pair 2 0) (pair 4 3) (pair 4 0))) 2 (seat (pair 3 0) (pair 3 0) (pair 4 0));
+        mail = λ p. some record { by = 0; to = 1; row = row (pair 3 1) (pair 0 0) (pair 2 0) };
+        shelf = put (λ s. some record { by = 0; to = 0; row = row (pair 4 1) (pair 3 0) (pair 4 0) })
+            0 (some record { by = 0; to = 0; row = row (pair 2 1) (pair 3 0) (pair 0 0) });
+      };
+    }
+
+abbrev Numbers : Book → List (Call × ℕ) → Type 0
+Numbers b ts =
+    map (λ (t : Call × ℕ). call ringOf b (t .0) .answer .number) ts ≡ map (λ (t : Call × ℕ). t .1) ts
+
+pub empty-numbers : Numbers empty
+    ((start X, 0)
+    ∷ (start (setup 1 5 4 2 4 2 2), 2)
+    ∷ (on (local 2), 0)
+    ∷ (on (local 3), 3)
+    ∷ (on (send 3 3), 3)
+    ∷ (on (send 0 0), 4)
+    ∷ (on (receive 0 0), 5)
+    ∷ (on (discard 0), 5)
+    ∷ (on (drop 0), 5)
+    ∷ (on (write 0 19), 5)
+    ∷ (on (keep 2), 7)
+    ∷ [])
+unfolding call step askReasons reasons done permits inRange related allOf within any lowest
+empty-numbers = refl
+
+pub crowded-numbers : Numbers crowded
+    ((on (drop 32), 5)
+    ∷ (on (drop 31), 0)
+    ∷ (on (discard 32), 5)
+    ∷ (on (discard 31), 0)
+    ∷ (on (receive 1 32), 5)
+    ∷ (on (receive 2 31), 6)
+    ∷ (on (receive 1 31), 8)
+    ∷ (on (local 1), 8)
+    ∷ (on (send 0 1), 9)
+    ∷ (on (keep 0), 10)
+    ∷ (on (reset 0), 11)
+    ∷ (on (reset 1), 12)
+    ∷ (on (reset 2), 13)
+    ∷ (on (write 0 19), 15)
+    ∷ (on (write 0 20), 0)
+    ∷ (on (before 0 1), 16)
+    ∷ (on (before 1 2), 0)
+    ∷ [])
+unfolding call step askReasons reasons done permits inRange related allOf within any lowest
+crowded-numbers = refl
+
+-- off the book: two stamps; a setup that is not permitted; a record that does not read, first or second; two stamps 2 phases apart
+abbrev stampAt : ℕ → Option Label
+stampAt v = some record { owner = 0; row = row (pair v 1) (pair 0 0) (pair 0 0) }
+
+pub off-numbers : (beforeOff X (stampAt 0) (stampAt 1) .number
+    ∷ beforeOff (setup 1 5 4 2 4 2 2) none none .number
+    ∷ beforeOff X none (stampAt 0) .number
+    ∷ compareOff X (stampAt 0) none .number
+    ∷ beforeOff X (stampAt 0) (stampAt 2) .number
+    ∷ []) ≡ (0 ∷ 2 ∷ 14 ∷ 14 ∷ 16 ∷ [])
+unfolding permits inRange related allOf within beforeOff compareOff
+off-numbers = refl
+
+pub other-numbers : (number BadBook ≡ 1) × (number BadLine ≡ 17)
+other-numbers = (refl, refl)
