@@ -1,4 +1,5 @@
--- The starred cases of document 01 that need no bytes, its listing, and a run for each error that the desks would make.
+-- The starred cases that need no bytes, the listing of the rules, a run for each error that the desks would make, and for each
+-- refusal that these leave out. Refusals are by their literal numbers.
 -- Assumes nothing.
 --   setupWith P A     the setup of the cases with a ring of P, and kept stamps that may lag A; X, that with 5 and 4
 --   narrow, small     two desks that may lag one phase, as in the listing; the same with clocks and a reach to spare
@@ -8,16 +9,18 @@
 --   pairs k n r       n pairs of the row r, from desk k on
 --   cut D e, shown D v   a stamp, and the value v, as the listing shows it, with D pairs
 --   Line              a number, and what is shown with it
---   told v, refused w an accepted line that shows v; the line of a refusal by its name
+--   told v, refused n an accepted line that shows v; the line of the refusal numbered n
 --   Case              calls one after another, and the lines that answer them
 --   turnLine t        the line of a turn
 --   answers b c       what the ring answers to the calls of the case c, from the book b on
 --   opened X cs ls    the case of the calls cs after an accepted start
 --   starred           the cases of calls, by their numbers
---   listing           the example of document 01
+--   listing           the example of the rules
 --   told-by p         desk 0 resets and tells desk 1 of it by the place p
---   told-lines p v t  the lines of that: v desk 0's new phase, t the clock of desk 1
+--   told-lines p v t  the lines of that: v the phase that desk 0 comes to, t the clock of desk 1
 --   errors            a run for each error that the desks would make
+--   upTo n            the numbers below n
+--   room              runs on places and slots: full ones, freed ones, and a stamp written or kept too long
 --   all               all of these
 --   laterOf own       the later of phases 4 and 0 in either order, on a ring of 5, at that own phase
 --   apart up down     a difference within reach
@@ -27,26 +30,14 @@ use mathlib.Core.Path.{_≡_}
 use mathlib.Core.Bool.{Bool, false}
 use mathlib.Core.Option.{Option, none, some}
 use mathlib.Core.List.{List, [], _∷_, _++_, map}
-use Prim.Native.Nat.{ℕ, zero, suc}
+use Prim.Native.Nat.{ℕ, zero, suc, _+_}
+use lib.ListN.{replicate}
+use Rattle.tools.specs.Lists.{tab}
 use Rattle.ring.specs.Phases.{Pair, Gap, ring, later}
 use Rattle.rules.specs.declared.Setup.{Setup}
 use Rattle.rules.specs.declared.Relation.{Relation}
 use Rattle.rules.specs.declared.Relation.the-variants.{Before, Same, Concurrent}
-use Rattle.rules.specs.Numbers.{
-  Name,
-  BadSetup,
-  NoDesk,
-  SameDesk,
-  NoPlace,
-  NotYours,
-  NoEvent,
-  PhaseFull,
-  SeatBehind,
-  MailBehind,
-  OutOfReach,
-  number,
-}
-use Rattle.rules.specs.Model.{Row, Label, before, compare, local, reset, keep, send, receive, Value}
+use Rattle.rules.specs.Model.{Row, Label, before, compare, write, local, reset, keep, drop, discard, send, receive, Value}
 use Rattle.rules.specs.Calls.{Book, Call, start, on, Turn, ringOf}
 use Rattle.rules.specs.Labels.{gapOff, beforeOff}
 use Rattle.history.specs.Runs.{run}
@@ -111,8 +102,8 @@ pub record Line : Type 0 where
 abbrev pub told : Shown → Line
 told v = record { number = 0; shown = v }
 
-abbrev pub refused : Name → Line
-refused w = record { number = number w; shown = plain }
+abbrev pub refused : ℕ → Line
+refused n = record { number = n; shown = plain }
 
 pub record Case : Type 0 where
   pub calls : List Call
@@ -129,29 +120,29 @@ opened X cs ls = record { calls = start X ∷ cs; lines = told plain ∷ ls }
 
 abbrev pub starred : List Case
 starred =
-    -- 1 and 2
+    -- 1 and 2: BadSetup
     record {
       calls = start X ∷ start (setupWith 4 4) ∷ start (setupWith 5 1) ∷ [];
-      lines = told plain ∷ refused BadSetup ∷ refused BadSetup ∷ [];
+      lines = told plain ∷ refused 2 ∷ refused 2 ∷ [];
     }
     -- 3
     ∷ opened X (on (local 0) ∷ []) (told (made 0 (pair 0 1 ∷ pair 0 0 ∷ pair 0 0 ∷ [])) ∷ [])
-    -- 5
-    ∷ opened X (on (keep 2) ∷ []) (refused NoEvent ∷ [])
-    -- 6
-    ∷ opened X (on (send 0 0) ∷ on (send 3 3) ∷ []) (refused SameDesk ∷ refused NoDesk ∷ [])
-    -- 7
+    -- 5: NoEvent
+    ∷ opened X (on (keep 2) ∷ []) (refused 7 ∷ [])
+    -- 6: SameDesk, NoDesk
+    ∷ opened X (on (send 0 0) ∷ on (send 3 3) ∷ []) (refused 4 ∷ refused 3 ∷ [])
+    -- 7: PhaseFull
     ∷ opened X (on (local 0) ∷ on (local 0) ∷ on (local 0) ∷ on (local 0) ∷ [])
     (told (made 0 (pair 0 1 ∷ pair 0 0 ∷ pair 0 0 ∷ []))
     ∷ told (made 0 (pair 0 2 ∷ pair 0 0 ∷ pair 0 0 ∷ []))
     ∷ told (made 0 (pair 0 3 ∷ pair 0 0 ∷ pair 0 0 ∷ []))
-    ∷ refused PhaseFull
+    ∷ refused 8
     ∷ [])
-    -- 8
+    -- 8: SeatBehind
     ∷ opened X (on (reset 0) ∷ on (reset 0) ∷ on (reset 0) ∷ [])
     (told (made 0 (pair 1 0 ∷ pair 0 0 ∷ pair 0 0 ∷ []))
     ∷ told (made 0 (pair 2 0 ∷ pair 0 0 ∷ pair 0 0 ∷ []))
-    ∷ refused SeatBehind
+    ∷ refused 11
     ∷ [])
     -- 11
     ∷ opened X (on (local 0) ∷ on (keep 0) ∷ on (keep 0) ∷ on (compare 0 1) ∷ on (before 0 1) ∷ on (before 1 0) ∷ [])
@@ -162,12 +153,12 @@ starred =
     ∷ told (word false)
     ∷ told (word false)
     ∷ [])
-    -- 12: it still waits, and is gone once it is received
+    -- 12: NotYours; it still waits, and is gone once it is received: NoPlace
     ∷ opened X (on (send 0 1) ∷ on (receive 2 0) ∷ on (receive 1 0) ∷ on (receive 1 0) ∷ [])
     (told (posted 0 0 (pair 0 1 ∷ pair 0 0 ∷ pair 0 0 ∷ []))
-    ∷ refused NotYours
+    ∷ refused 6
     ∷ told (made 1 (pair 0 1 ∷ pair 0 1 ∷ pair 0 0 ∷ []))
-    ∷ refused NoPlace
+    ∷ refused 5
     ∷ [])
     ∷ []
 
@@ -190,11 +181,11 @@ listing =
     ∷ told (inSlot 1)
     ∷ told (stands Before)
     ∷ told (made 0 (pair 1 0 ∷ pair 0 0 ∷ []))
-    ∷ refused SeatBehind
+    ∷ refused 11
     ∷ [])
 
 abbrev pub small : Setup
-small = record { desks = 2; phases = 3; clocks = 9; seatLag = 1; shelfLag = 1; back = 2; ahead = 2 }
+small = record { desks = 2; phases = 3; clocks = 99; seatLag = 1; shelfLag = 1; back = 2; ahead = 2 }
 
 abbrev pub told-by : ℕ → List Call
 told-by p = on (reset 0) ∷ on (send 0 1) ∷ on (receive 1 p) ∷ []
@@ -220,16 +211,16 @@ errors =
     ∷ told (word false)
     ∷ told (stands Concurrent)
     ∷ [])
-    -- checking only seats at a reset: the mail in place 0 has waited for two phases
+    -- checking only seats at a reset: the mail in place 0 has waited for two phases, MailBehind
     ∷ opened small (on (send 0 1) ∷ told-by 1 ++ told-by 1 ++ on (reset 0) ∷ [])
-    (told (posted 0 0 (pair 0 1 ∷ pair 0 0 ∷ [])) ∷ told-lines 1 1 1 ++ told-lines 1 2 2 ++ refused MailBehind ∷ [])
+    (told (posted 0 0 (pair 0 1 ∷ pair 0 0 ∷ [])) ∷ told-lines 1 1 1 ++ told-lines 1 2 2 ++ refused 12 ∷ [])
     -- merging the receiver's own entry from the mail: desk 1 has a clock of 1, and the mail knows of 0
     ∷ opened small (on (send 0 1) ∷ on (local 1) ∷ on (receive 1 0) ∷ [])
     (told (posted 0 0 (pair 0 1 ∷ pair 0 0 ∷ []))
     ∷ told (made 1 (pair 0 0 ∷ pair 0 1 ∷ []))
     ∷ told (made 1 (pair 0 1 ∷ pair 0 2 ∷ []))
     ∷ [])
-    -- giving "concurrent" when one direction is out of reach: at desk 1 the difference is 0, at desk 0 it is 2
+    -- giving "concurrent" when one direction is out of reach: at desk 1 the difference is 0, at desk 0 it is 2, OutOfReach
     ∷ opened X
     (on (local 1) ∷ on (keep 1) ∷ on (reset 0) ∷ on (reset 0) ∷ on (keep 0) ∷ on (before 0 1) ∷ on (compare 0 1) ∷ [])
     (told (made 1 (pair 0 0 ∷ pair 0 1 ∷ pair 0 0 ∷ []))
@@ -238,12 +229,80 @@ errors =
     ∷ told (made 0 (pair 2 0 ∷ pair 0 0 ∷ pair 0 0 ∷ []))
     ∷ told (inSlot 1)
     ∷ told (word false)
-    ∷ refused OutOfReach
+    ∷ refused 16
+    ∷ [])
+    ∷ []
+
+abbrev pub upTo : ℕ → List ℕ
+upTo n = tab 0 n (λ i. i)
+
+abbrev pub room : List Case
+room =
+    -- 32 sends fill the places from the lowest on, one more is MailFull, and the next fills the place that a discard frees
+    opened small (replicate 33 (on (send 0 1)) ++ on (discard 7) ∷ on (send 0 1) ∷ [])
+    (map (λ p. told (posted p 0 (pair 0 (p + 1) ∷ pair 0 0 ∷ []))) (upTo 32)
+    ++ refused 9
+    ∷ told plain
+    ∷ told (posted 7 0 (pair 0 33 ∷ pair 0 0 ∷ []))
+    ∷ [])
+    -- 32 keeps fill the slots, one more is ShelfFull, and the next fills the slot that a drop frees
+    ∷ opened small (on (local 0) ∷ replicate 33 (on (keep 0)) ++ on (drop 7) ∷ on (keep 0) ∷ [])
+    (told (made 0 (pair 0 1 ∷ pair 0 0 ∷ []))
+    ∷ map (λ s. told (inSlot s)) (upTo 32)
+    ++ refused 10
+    ∷ told plain
+    ∷ told (inSlot 7)
+    ∷ [])
+    -- a discard frees its place alone: the other mail still waits and is received; NoPlace for a place free or above 31
+    ∷ opened small
+    (on (send 0 1) ∷ on (send 0 1) ∷ on (discard 0) ∷ on (receive 1 0) ∷ on (receive 1 1) ∷ on (send 0 1) ∷ on (discard 32) ∷ [])
+    (told (posted 0 0 (pair 0 1 ∷ pair 0 0 ∷ []))
+    ∷ told (posted 1 0 (pair 0 2 ∷ pair 0 0 ∷ []))
+    ∷ told plain
+    ∷ refused 5
+    ∷ told (made 1 (pair 0 2 ∷ pair 0 1 ∷ []))
+    ∷ told (posted 0 0 (pair 0 3 ∷ pair 0 0 ∷ []))
+    ∷ refused 5
+    ∷ [])
+    -- a drop frees its slot alone: the other stamp is still kept, and is written into 20 bytes; 19 are NoRoom
+    ∷ opened small
+    (on (local 0)
+    ∷ on (keep 0)
+    ∷ on (keep 0)
+    ∷ on (drop 0)
+    ∷ on (write 0 20)
+    ∷ on (write 1 19)
+    ∷ on (write 1 20)
+    ∷ on (local 0)
+    ∷ on (keep 0)
+    ∷ on (compare 1 0)
+    ∷ on (drop 32)
+    ∷ [])
+    (told (made 0 (pair 0 1 ∷ pair 0 0 ∷ []))
+    ∷ told (inSlot 0)
+    ∷ told (inSlot 1)
+    ∷ told plain
+    ∷ refused 5
+    ∷ refused 15
+    ∷ told (made 0 (pair 0 1 ∷ pair 0 0 ∷ []))
+    ∷ told (made 0 (pair 0 2 ∷ pair 0 0 ∷ []))
+    ∷ told (inSlot 0)
+    ∷ told (stands Before)
+    ∷ refused 5
+    ∷ [])
+    -- ShelfBehind: a kept stamp lags as far as it may, until it is dropped
+    ∷ opened small (on (local 0) ∷ on (keep 0) ∷ told-by 0 ++ on (reset 0) ∷ on (drop 0) ∷ on (reset 0) ∷ [])
+    (told (made 0 (pair 0 1 ∷ pair 0 0 ∷ []))
+    ∷ told (inSlot 0)
+    ∷ told-lines 0 1 1
+    ++ refused 13
+    ∷ told plain
+    ∷ told (made 0 (pair 2 0 ∷ pair 0 0 ∷ []))
     ∷ [])
     ∷ []
 
 abbrev pub all : List Case
-all = starred ++ listing ∷ errors
+all = starred ++ listing ∷ errors ++ room
 
 abbrev pub laterOf : ℕ → List Pair
 laterOf own = later (ring 5) own (pair 4 0) (pair 0 0) ∷ later (ring 5) own (pair 0 0) (pair 4 0) ∷ []
@@ -262,4 +321,4 @@ pub record Cases : Type 0 where
   pub reach : map (λ v. gapOff X 0 (stampAt 3 .row) (stampAt v .row)) (3 ∷ 4 ∷ 2 ∷ 0 ∷ 1 ∷ [])
       ≡ (apart 0 0 ∷ apart 1 0 ∷ apart 0 1 ∷ none ∷ none ∷ [])
   pub numbers : map (λ v. beforeOff X (some (stampAt 3)) (some (stampAt v)) .number) (3 ∷ 4 ∷ 2 ∷ 0 ∷ 1 ∷ [])
-      ≡ (0 ∷ 0 ∷ 0 ∷ number OutOfReach ∷ number OutOfReach ∷ [])
+      ≡ (0 ∷ 0 ∷ 0 ∷ 16 ∷ 16 ∷ [])
