@@ -17,7 +17,7 @@ use Rattle.tools.proofs.Tests.{each, all-at, all-in, lt-or-le}
 use Rattle.tools.proofs.Lists.{length-tab, tab-at, is-tab}
 use Rattle.ring.specs.Phases.{Pair}
 use Rattle.rules.specs.declared.Setup.{Setup}
-use Rattle.rules.specs.Model.{Label, zeros, grown, fresh}
+use Rattle.rules.specs.Model.{Label, zeros}
 use Rattle.rules.specs.Replies.{rowByte, rowBytes}
 use Rattle.book.specs.Layout.{rowSpot, phaseSpot, clockSpot, markedByte}
 use Rattle.book.specs.Stamps.{stampMark0, stampMark1, stampByte, writeStamp, labelOf, pairReads, readOk, readStamp}
@@ -176,9 +176,3 @@ module _ (X : Setup) (few : X .desks ≤ 8) where
     pub read-write : readStamp X (writeStamp (X .desks) e) ≡ some e
     unfolding readStamp
     read-write = rw (readStamp, clauses-read X written written-clauses) (ap some label-told)
-
--- case 4 of document 01: the record of the stamp that local 0 answers on a fresh book
-pub case-4 : writeStamp 3 (record { owner = 0; row = grown fresh 0 })
-    ≡ 0x53 ∷ 0x54 ∷ 0x00 ∷ 0x03 ∷ 0x00 ∷ 0x01 ∷ 0 ∷ 0 ∷ 0 ∷ 0 ∷ 0 ∷ 0 ∷ 0 ∷ 0 ∷ 0 ∷ 0 ∷ 0 ∷ 0 ∷ 0 ∷ 0 ∷ []
-unfolding writeStamp tab markedByte rowByte
-case-4 = refl

@@ -7,18 +7,20 @@ use mathlib.Core.Logic.{inl, inr}
 use Prim.Native.Nat.{ℕ}
 use borrow.Author.Tests.{eq-eqb}
 use lib.ListN.{length}
+use Rattle.tools.specs.Lists.{tab}
 use Rattle.rules.specs.declared.Setup.{Setup}
 use Rattle.rules.specs.Setups.{permits}
 use Rattle.rules.specs.Model.{Answer}
 use Rattle.rules.specs.Calls.{Book, Call, start, Turn, ringOf, call}
+use Rattle.rules.specs.Replies.{rowByte}
 use Rattle.history.specs.Runs.{run}
 use Rattle.cases.proofs.Cases.{cases}
 use Rattle.book.specs.Sound.{sound}
-use Rattle.book.specs.Layout.{bookSize}
+use Rattle.book.specs.Layout.{bookSize, markedByte}
 use Rattle.book.specs.Codec.{decode}
+use Rattle.book.specs.Stamps.{writeStamp}
 use Rattle.book.specs.Answers.{admits, turnOn, bookAfter}
 use Rattle.book.proofs.Answers.{answer-is, after-decode, after-sound}
-use Rattle.labels.proofs.Records.{case-4}
 use Rattle.promises.specs.Runs.{answersOn}
 use Rattle.promises.specs.Starred.{Starred}
 use Rattle.promises.proofs.Together.{sound-admits}
@@ -50,4 +52,5 @@ start-run s l X p cs =
 
 -- THE STATEMENT of the starred cases
 pub starred : Starred
-starred = record { cases = cases; fourth = case-4; carried = start-run }
+unfolding writeStamp tab markedByte rowByte
+starred = record { cases = cases; fourth = refl; carried = start-run }
