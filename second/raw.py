@@ -1,7 +1,10 @@
 """The C interface held against the second opinion, on books no listing reaches.
 
-    python3 second/raw.py LIBRARY                     a few thousand calls
-    python3 second/raw.py LIBRARY --calls 200000 --seed 7
+    python3 second/raw.py DRIVER                      a few thousand calls
+    python3 second/raw.py DRIVER --calls 200000 --seed 7
+
+DRIVER is tests/raw_driver.c, linked to the library: it makes the calls that it
+is asked for. A prefix to run it by is given by --runner. `tests/raw` builds it.
 
 Sound books made at random (unreachable ones too), bytes damaged at every
 offset, wrong lengths and odd numbers. The answer and every byte of every lent
@@ -11,10 +14,12 @@ difference is printed and ends with 1.
 
 import argparse
 import collections
-import ctypes
+import copy
 import itertools
 import os
 import random
+import shlex
+import subprocess
 import sys
 
 sys.path.insert(0, os.path.dirname(os.path.dirname(os.path.abspath(__file__))))
@@ -38,6 +43,7 @@ WRONG_LABEL_LENGTHS = (0, 1, 2, 19, 21, 40)
 GUARD = 24
 DEFAULT_CALLS = 6000
 SOUND_BOOKS = 600
+BATCH = 250
 
 
 class Lent:
@@ -45,50 +51,64 @@ class Lent:
 
     def __init__(self, rng, content):
         self.length = len(content)
-        self.memory = bytearray(rng.randbytes(GUARD) + content + rng.randbytes(GUARD))
+        self.memory = rng.randbytes(GUARD) + content + rng.randbytes(GUARD)
 
     def content(self):
-        return bytes(self.memory[GUARD:GUARD + self.length])
-
-    def address(self):
-        return ctypes.addressof(ctypes.c_char.from_buffer(self.memory, GUARD))
+        return self.memory[GUARD:GUARD + self.length]
 
     def with_content(self, content):
         """All the memory, were its first bytes these."""
         return self.memory[:GUARD] + content + self.memory[GUARD + len(content):]
 
 
-class Library:
-    """The functions of gulambitok.h, by a handle that holds them."""
-
-    def __init__(self, handle):
-        self.functions = {name: getattr(handle, "gulambitok_" + name) for name in NEEDS}
-        for name, function in self.functions.items():
-            function.restype = ctypes.c_uint8
-            function.argtypes = argument_types(name)
-
-    def call(self, name, arguments):
-        flat = []
-        for argument in arguments:
-            flat += ((argument.address(), argument.length)
-                     if isinstance(argument, Lent) else (argument,))
-        return self.functions[name](*flat)
+def parted(arguments):
+    """The numbers and the lent buffers, each in their order."""
+    return ([argument for argument in arguments if not isinstance(argument, Lent)],
+            [argument for argument in arguments if isinstance(argument, Lent)])
 
 
-def argument_types(name):
-    number, lent = [ctypes.c_size_t], [ctypes.c_void_p, ctypes.c_size_t]
-    values = lent * len(NEEDS[name])
-    if name in LABEL_CALLS:
-        return number * 7 + lent * 2 + values
-    return lent + number * BOOK_CALLS[name][0] + values
+# The driver
+
+def word(number):
+    return number.to_bytes(8, "little")
+
+
+def frame(asked):
+    """A call as the driver reads it: its place in the header, then what it takes."""
+    numbers, lent = parted(asked.arguments)
+    return (bytes((list(NEEDS).index(asked.name), len(numbers), len(lent)))
+            + b"".join(map(word, numbers))
+            + b"".join(word(buffer.length) + buffer.memory for buffer in lent))
+
+
+def driver(command):
+    """A library: the number and the memories of each call of a batch, and how it ended."""
+    def library(batch):
+        run = subprocess.run(command, input=b"".join(map(frame, batch)),
+                             stdout=subprocess.PIPE, check=False)
+        return answers_in(run.stdout, batch), run.returncode
+    return library
+
+
+def answers_in(told, batch):
+    """Of each call the number and the memories; fewer where the driver ended early."""
+    answers, at = [], 0
+    for asked in batch:
+        memories = [len(buffer.memory) for buffer in parted(asked.arguments)[1]]
+        ends = list(itertools.accumulate(memories, initial=at + 1))
+        if ends[-1] > len(told):
+            break
+        answers.append((told[at], [told[i:j] for i, j in zip(ends, ends[1:])]))
+        at = ends[-1]
+    return answers
 
 
 # What the second opinion answers
 
 def answer_of(name, arguments):
     """The number, the book afterwards and the values in the header's order."""
-    numbers = [argument for argument in arguments if not isinstance(argument, Lent)]
-    lent = [argument.content() for argument in arguments if isinstance(argument, Lent)]
+    numbers, lent = parted(arguments)
+    lent = [buffer.content() for buffer in lent]
     if name in LABEL_CALLS:
         number, values = getattr(book, name)(numbers, *lent[:2])
         return number, None, values
@@ -111,17 +131,17 @@ def encode(value, after):
 def expected(name, arguments):
     """The number, and the memory of every lent buffer afterwards."""
     number, after, values = answer_of(name, arguments)
-    lent = [argument for argument in arguments if isinstance(argument, Lent)]
+    lent = parted(arguments)[1]
     outs = lent[len(lent) - len(NEEDS[name]):]
     short = any(out.length < need for out, need in zip(outs, NEEDS[name]))
     if number in (book.DONE, book.OUT_OF_REACH) and short:
         number = book.NO_ROOM
-    memories = {id(buffer): bytes(buffer.memory) for buffer in lent}
+    memories = {id(buffer): buffer.memory for buffer in lent}
     if number == book.DONE:
         if after is not None:
-            memories[id(lent[0])] = bytes(lent[0].with_content(after))
+            memories[id(lent[0])] = lent[0].with_content(after)
         for out, value in zip(outs, values):
-            memories[id(out)] = bytes(out.with_content(encode(value, after)))
+            memories[id(out)] = out.with_content(encode(value, after))
     return number, [memories[id(buffer)] for buffer in lent]
 
 
@@ -368,45 +388,63 @@ def label_trial(rng, name, spoil):
 
 # The comparison
 
-def difference(name, arguments, library):
-    """What differs, or None; and the number with the value asked for."""
-    lent = [argument for argument in arguments if isinstance(argument, Lent)]
-    before = [argument.content().hex() if isinstance(argument, Lent) else argument
-              for argument in arguments]
-    number, memories = expected(name, arguments)
-    given = library.call(name, arguments)
-    wrong = [(number, given)] if number != given else []
-    for at, (buffer, memory) in enumerate(zip(lent, memories)):
-        wrong += differing_bytes(at, memory, buffer.memory)
-    seen = number, memories[-1][GUARD] if number == book.DONE and NEEDS[name] == (1,) else None
-    return (before, wrong) if wrong else None, seen
+Asked = collections.namedtuple("Asked", "name arguments number memories")
 
 
-def differing_bytes(at, wanted, given):
-    return [f"buffer {at}, byte {offset - GUARD}: second {one}, library {other}"
-            for offset, (one, other) in enumerate(zip(wanted, given)) if one != other][:8]
+def ask(name, arguments):
+    """A call as it is made, with what it should answer; its buffers are left as they should be."""
+    asked = Asked(name, [copy.copy(argument) for argument in arguments],
+                  *expected(name, arguments))
+    for buffer, memory in zip(parted(arguments)[1], asked.memories):
+        buffer.memory = memory
+    return asked
 
 
-def report(trial, seed, name, found):
-    before, wrong = found
-    print(f"call {trial} of seed {seed}: {name} differs")
-    for argument in before:
-        print(f"  given   {argument}")
+def batches(calls, seed):
+    made = (ask(*trial) for trial in itertools.islice(trials(random.Random(seed)), calls))
+    while batch := list(itertools.islice(made, BATCH)):
+        yield batch
+
+
+def differences(asked, number, memories):
+    wrong = []
+    if number != asked.number:
+        wrong.append(f"second answers {asked.number}, library {number}")
+    for at, (wanted, given) in enumerate(zip(asked.memories, memories)):
+        wrong += [f"buffer {at}, byte {offset - GUARD}: second {one}, library {other}"
+                  for offset, (one, other) in enumerate(zip(wanted, given)) if one != other][:8]
+    return wrong
+
+
+def seen_of(asked):
+    """The call with its number, and the value where that is one byte."""
+    told = asked.number == book.DONE and NEEDS[asked.name] == (1,)
+    return asked.name, asked.number, asked.memories[-1][GUARD] if told else None
+
+
+def report(trial, seed, asked, wrong):
+    print(f"call {trial} of seed {seed}: {asked.name} differs")
+    for argument in asked.arguments:
+        print(f"  given   {argument.content().hex() if isinstance(argument, Lent) else argument}")
     for one in wrong:
-        text = f"second answers {one[0]}, library {one[1]}" if isinstance(one, tuple) else one
-        print(f"  {text}")
+        print(f"  {one}")
 
 
 def compare(library, calls, seed):
     """What was seen of each call; None when something differs."""
     seen = collections.Counter()
-    rng = random.Random(seed)
-    for trial, (name, arguments) in enumerate(itertools.islice(trials(rng), calls), 1):
-        found, answer = difference(name, arguments, library)
-        if found:
-            report(trial, seed, name, found)
+    for batch in batches(calls, seed):
+        answers, ended = library(batch)
+        for asked, answer in itertools.zip_longest(batch, answers):
+            wrong = (differences(asked, *answer) if answer
+                     else [f"the driver answers nothing and ends with {ended}"])
+            if wrong:
+                report(sum(seen.values()) + 1, seed, asked, wrong)
+                return None
+            seen[seen_of(asked)] += 1
+        if ended != 0:
+            print(f"all calls agree, but the driver ends with {ended}")
             return None
-        seen[(name, *answer)] += 1
     return seen
 
 
@@ -421,12 +459,13 @@ def summary(seen):
 
 def main():
     parser = argparse.ArgumentParser(description="the C interface against the second opinion")
-    parser.add_argument("library")
+    parser.add_argument("driver")
     parser.add_argument("--calls", type=int, default=DEFAULT_CALLS)
     parser.add_argument("--seed", type=int, default=1)
+    parser.add_argument("--runner", default="")
     options = parser.parse_args()
-    library = Library(ctypes.CDLL(os.path.abspath(options.library)))
-    seen = compare(library, options.calls, options.seed)
+    command = shlex.split(options.runner) + [os.path.abspath(options.driver)]
+    seen = compare(driver(command), options.calls, options.seed)
     if seen is None:
         return 1
     print(f"{sum(seen.values())} calls agreed; how often each number was answered:")

@@ -5,10 +5,8 @@ listing find each error the desks would make; and that the runners report.
 """
 
 import contextlib
-import ctypes
 import io
 import os
-import random
 import sys
 import unittest
 from unittest import mock
@@ -305,41 +303,30 @@ class Runner(unittest.TestCase):
         self.assertIn("ended with 3", told)
 
 
-# The C interface, by functions that stand in for it
-
-def stand_in(name, errors):
-    """A function with the C interface's arguments, over a book.py with errors."""
-    def function(*flat):
-        arguments = lent_arguments(name, list(flat))
-        with mock.patch.dict(vars(book), errors):
-            number, memories = raw.expected(name, arguments)
-        lent = [argument for argument in arguments if isinstance(argument, raw.Lent)]
-        for buffer, memory in zip(lent, memories):
-            content = memory[raw.GUARD:raw.GUARD + buffer.length]
-            ctypes.memmove(buffer.lent_at, content, buffer.length)
-        return number
-    return function
-
-
-def lent_arguments(name, flat):
-    arguments = []
-    types = raw.argument_types(name)
-    while types:
-        argument = flat.pop(0)
-        if types.pop(0) is ctypes.c_void_p:
-            length = flat.pop(0)
-            types.pop(0)
-            buffer = raw.Lent(random, ctypes.string_at(argument, length))
-            buffer.lent_at, argument = argument, buffer
-        arguments.append(argument)
-    return arguments
-
+# The C interface, by a library that stands in for it
 
 def stand_in_library(**errors):
-    handle = type("Handle", (), {})()
-    for name in raw.NEEDS:
-        setattr(handle, "gulambitok_" + name, stand_in(name, errors))
-    return raw.Library(handle)
+    """A library that is book.py with errors."""
+    def library(batch):
+        with mock.patch.dict(vars(book), errors):
+            return [raw.expected(asked.name, asked.arguments) for asked in batch], 0
+    return library
+
+
+def beside(batch):
+    """A library that changes the byte after the last buffer of its last call."""
+    answers, ended = stand_in_library()(batch)
+    memory = answers[-1][1][-1]
+    answers[-1][1][-1] = memory[:-raw.GUARD] + bytes((memory[-raw.GUARD] ^ 1,)) + memory[1 - raw.GUARD:]
+    return answers, ended
+
+
+def ends_early(batch):
+    return stand_in_library()(batch[:-1])[0], -11
+
+
+def ends_badly(batch):
+    return stand_in_library()(batch)[0], 3
 
 
 # Every number each call can answer.
@@ -362,12 +349,21 @@ class Raw(unittest.TestCase):
         for name in ("compare", "label_compare"):
             self.assertEqual({key[2] for key in seen if key[:2] == (name, 0)}, {1, 2, 3, 4, 5})
 
+    def found(self, library, *parts):
+        with contextlib.redirect_stdout(io.StringIO()) as told:
+            self.assertIsNone(raw.compare(library, raw.DEFAULT_CALLS, 1))
+        for part in parts:
+            self.assertIn(part, told.getvalue())
+
     def test_each_error_is_found(self):
         for name, error in RAW_ERRORS:
-            with contextlib.redirect_stdout(io.StringIO()) as told:
-                seen = raw.compare(stand_in_library(**{name: error}), raw.DEFAULT_CALLS, 1)
-            self.assertIsNone(seen, error.__name__)
-            self.assertIn("differs", told.getvalue())
+            with self.subTest(error.__name__):
+                self.found(stand_in_library(**{name: error}), "differs", "second", "library")
+
+    def test_a_bad_driver_is_told(self):
+        self.found(beside, f"call {raw.BATCH} of seed 1", "buffer ")
+        self.found(ends_early, f"call {raw.BATCH} of seed 1", "ends with -11")
+        self.found(ends_badly, "ends with 3")
 
 
 if __name__ == "__main__":

@@ -1,5 +1,5 @@
 /* Makes each call of gulambitok.h, accepted and refused, so that header and archive cannot differ
- * unseen. The setup is X of document 01. */
+ * unseen. The setup is X, of three desks. */
 #include "gulambitok.h"
 
 #include <stdio.h>

@@ -1,0 +1,85 @@
+/* Makes the calls of gulambitok.h that standard input asks for, each on memory of its own, and
+ * writes what it answered and left. second/raw.py asks.
+ *
+ * A call is three bytes, its place in the header and how many numbers and buffers it is given; then
+ * its numbers; then for each buffer its length, and the bytes lent with GUARD bytes on both sides.
+ * Numbers and lengths are 64 bits as x86-64 has them. The answer is its number in one byte, then the
+ * bytes of each buffer and its guards. It is flushed, so that a call that ends the program is known.
+ * What does not read as a call ends it with 2.
+ */
+#include "gulambitok.h"
+
+#include <stdio.h>
+#include <stdlib.h>
+
+enum { GUARD = 24, NUMBERS = 7, BUFFERS = 3 };
+
+struct lent {
+    size_t length;
+    uint8_t *memory;
+};
+
+static void take(void *bytes, size_t count)
+{
+    if (fread(bytes, 1, count, stdin) != count)
+        exit(2);
+}
+
+static void take_lent(struct lent *lent)
+{
+    take(&lent->length, sizeof lent->length);
+    lent->memory = malloc(lent->length + 2 * GUARD);
+    if (!lent->memory)
+        exit(2);
+    take(lent->memory, lent->length + 2 * GUARD);
+}
+
+#define SETUP n[0], n[1], n[2], n[3], n[4], n[5], n[6]
+#define LENT(i) lent[i].memory + GUARD, lent[i].length
+
+static uint8_t call(uint8_t place, const size_t *n, const struct lent *lent)
+{
+    switch (place) {
+    case 0: return gulambitok_start(LENT(0), SETUP);
+    case 1: return gulambitok_local(LENT(0), n[0], LENT(1));
+    case 2: return gulambitok_send(LENT(0), n[0], n[1], LENT(1), LENT(2));
+    case 3: return gulambitok_receive(LENT(0), n[0], n[1], LENT(1));
+    case 4: return gulambitok_reset(LENT(0), n[0], LENT(1));
+    case 5: return gulambitok_keep(LENT(0), n[0], LENT(1));
+    case 6: return gulambitok_drop(LENT(0), n[0]);
+    case 7: return gulambitok_discard(LENT(0), n[0]);
+    case 8: return gulambitok_before(LENT(0), n[0], n[1], LENT(1));
+    case 9: return gulambitok_compare(LENT(0), n[0], n[1], LENT(1));
+    case 10: return gulambitok_show(LENT(0), n[0], LENT(1));
+    case 11: return gulambitok_write(LENT(0), n[0], LENT(1));
+    case 12: return gulambitok_label_before(SETUP, LENT(0), LENT(1), LENT(2));
+    case 13: return gulambitok_label_compare(SETUP, LENT(0), LENT(1), LENT(2));
+    case 14: return gulambitok_label_newest(SETUP, LENT(0), LENT(1), LENT(2));
+    }
+    exit(2);
+}
+
+static void answer(const uint8_t shape[3])
+{
+    size_t n[NUMBERS] = {0};
+    struct lent lent[BUFFERS] = {{0, NULL}};
+    if (shape[1] > NUMBERS || shape[2] > BUFFERS)
+        exit(2);
+    take(n, shape[1] * sizeof *n);
+    for (int i = 0; i < shape[2]; i++)
+        take_lent(&lent[i]);
+    putchar(call(shape[0], n, lent));
+    for (int i = 0; i < shape[2]; i++) {
+        fwrite(lent[i].memory, 1, lent[i].length + 2 * GUARD, stdout);
+        free(lent[i].memory);
+    }
+    fflush(stdout);
+}
+
+int main(void)
+{
+    uint8_t shape[3];
+    while (fread(shape, sizeof shape, 1, stdin) == 1)
+        answer(shape);
+    return 0;
+}
