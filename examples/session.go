@@ -1,0 +1,61 @@
+// The session of the listing, made from Go and printed as the listing prints it.
+package main
+
+/*
+#cgo CFLAGS: -I${SRCDIR}/../target/gulambitok
+#cgo LDFLAGS: -L${SRCDIR}/../target/gulambitok -lgulambitok
+#include "gulambitok.h"
+*/
+import "C"
+
+import "fmt"
+
+type number = C.uint8_t
+
+var relations = map[number]string{
+	C.GULAMBITOK_BEFORE: "before", C.GULAMBITOK_AFTER: "after", C.GULAMBITOK_SAME: "same",
+	C.GULAMBITOK_CONCURRENT: "concurrent", C.GULAMBITOK_CROSSED: "crossed",
+}
+
+var book [C.GULAMBITOK_BOOK_BYTES]number
+var stamp [C.GULAMBITOK_STAMP_BYTES]number
+
+const bookLen, stampLen = C.size_t(len(book)), C.size_t(len(stamp))
+
+// On a refusal nothing else was written, so the number stands alone.
+func printLine(answer number, fields string) {
+	if answer != C.GULAMBITOK_DONE {
+		fields = ""
+	}
+	fmt.Printf("%03d%s\n", answer, fields)
+}
+
+func stampFields() string {
+	fields := fmt.Sprintf(" %03d", stamp[C.GULAMBITOK_STAMP_OWNER_AT])
+	row := stamp[C.GULAMBITOK_STAMP_ROW_AT:]
+	for desk := 0; desk < int(stamp[C.GULAMBITOK_STAMP_DESKS_AT]); desk++ {
+		fields += fmt.Sprintf(" %03d.%03d", row[2*desk], row[2*desk+1])
+	}
+	return fields
+}
+
+func main() {
+	var place, first, second, relation number
+	printLine(C.gulambitok_start(&book[0], bookLen, 2, 3, 3, 1, 1, 1, 1), "")
+	answer := C.gulambitok_local(&book[0], bookLen, 0, &stamp[0], stampLen)
+	printLine(answer, stampFields())
+	answer = C.gulambitok_keep(&book[0], bookLen, 0, &first, 1)
+	printLine(answer, fmt.Sprintf(" %03d", first))
+	answer = C.gulambitok_send(&book[0], bookLen, 0, 1, &stamp[0], stampLen, &place, 1)
+	printLine(answer, fmt.Sprintf(" %03d", place)+stampFields())
+	answer = C.gulambitok_receive(&book[0], bookLen, 1, C.size_t(place), &stamp[0], stampLen)
+	printLine(answer, stampFields())
+	answer = C.gulambitok_keep(&book[0], bookLen, 1, &second, 1)
+	printLine(answer, fmt.Sprintf(" %03d", second))
+	answer = C.gulambitok_compare(&book[0], bookLen, C.size_t(first), C.size_t(second), &relation, 1)
+	printLine(answer, " "+relations[relation])
+	for turn := 0; turn < 2; turn++ {
+		answer = C.gulambitok_reset(&book[0], bookLen, 0, &stamp[0], stampLen)
+		printLine(answer, stampFields())
+	}
+}
