@@ -35,7 +35,7 @@ def label(owner, *pairs, setup=X):
 
 
 class Cases(unittest.TestCase):
-    """Document 01, on both sides of the edge."""
+    """The cases of docs/RULES.md, on both sides of the edge."""
 
     def test_example(self):
         self.assertEqual(listing.answers(stored.EXAMPLE), stored.EXAMPLE_ANSWERS)
