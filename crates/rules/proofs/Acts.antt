@@ -6,7 +6,6 @@ use mathlib.Core.Option.{none, some}
 use Prim.Native.Nat.{ℕ, _+_}
 use lib.Dec.{eqb}
 use borrow.Author.Tests.{eq-eqb, ne-eqb}
-use Rattle.tools.proofs.Tests.{pick-true}
 use Rattle.tools.proofs.Tables.{put-same, put-other}
 use Rattle.ring.specs.Phases.{Phases, Gap, laterBy, lagGap, later}
 use Rattle.rules.specs.declared.Setup.{Setup}
@@ -48,59 +47,54 @@ module _ (Z : Phases) (X : Setup) (b : Tables) where
   pub turned-other : (j k : ℕ) → (k ≡ j → ⊥) → turned Z b j k ≡ b .seat j .row k
   turned-other j k ne = put-other (b .seat j .row) j _ k ne
 
-  -- All four mark the seat started and answer a stamp, owner and row; the row stays in the seat, and no other seat changes.
-  abbrev Leaves : ℕ → Row → Tables → Type 0
-  Leaves j r t = (t .seat j ≡ record { started = true; row = r }) × ((k : ℕ) → (k ≡ j → ⊥) → t .seat k ≡ b .seat k)
-
+  -- All four mark the seat started and answer a stamp, owner and row; the row stays in the seat.
   abbrev result : Act → Result
   result c = done Z X b c
 
-  pub local-leaves : (j : ℕ) → (result (local j) .answer ≡ accepted (stamp j (grown b j))) × Leaves j (grown b j) (result (local j) .tables)
+  abbrev Leaves : ℕ → Row → Act → Type 0
+  Leaves j r c = result c .tables .seat j ≡ record { started = true; row = r }
+
+  pub local-leaves : (j : ℕ) → (result (local j) .answer ≡ accepted (stamp j (grown b j))) × Leaves j (grown b j) (local j)
   unfolding done
-  local-leaves j = (refl, (put-same (b .seat) j _, put-other (b .seat) j _))
+  local-leaves j = (refl, let e = eq-eqb j j refl in cc)
 
   pub send-leaves : (j k : ℕ)
-      → (result (send j k) .answer ≡ accepted (sent (freeMail b) j (grown b j))) × Leaves j (grown b j) (result (send j k) .tables)
+      → (result (send j k) .answer ≡ accepted (sent (freeMail b) j (grown b j))) × Leaves j (grown b j) (send j k)
   unfolding done
-  send-leaves j k = (refl, (put-same (b .seat) j _, put-other (b .seat) j _))
+  send-leaves j k = (refl, let e = eq-eqb j j refl in cc)
 
   pub receive-leaves : (j p : ℕ) (w : Held) → b .mail p ≡ some w
       → (result (receive j p) .answer ≡ accepted (stamp j (merged Z b j (w .row))))
-      × Leaves j (merged Z b j (w .row)) (result (receive j p) .tables)
+      × Leaves j (merged Z b j (w .row)) (receive j p)
   unfolding done
-  receive-leaves j p w e = rw e (refl, (put-same (b .seat) j _, put-other (b .seat) j _))
+  receive-leaves j p w e = rw e (refl, let e = eq-eqb j j refl in cc)
 
-  pub reset-leaves : (j : ℕ)
-      → (result (reset j) .answer ≡ accepted (stamp j (turned Z b j))) × Leaves j (turned Z b j) (result (reset j) .tables)
+  pub reset-leaves : (j : ℕ) → (result (reset j) .answer ≡ accepted (stamp j (turned Z b j))) × Leaves j (turned Z b j) (reset j)
   unfolding done
-  reset-leaves j = (refl, (put-same (b .seat) j _, put-other (b .seat) j _))
+  reset-leaves j = (refl, let e = eq-eqb j j refl in cc)
 
   -- Send: j's row goes into the lowest free mail place.
   pub sent-waits : (j k : ℕ) → result (send j k) .tables .mail (freeMail b) ≡ some record { by = j; to = k; row = grown b j }
   unfolding done
-  sent-waits j k = put-same (b .mail) (freeMail b) _
+  sent-waits j k = let e = eq-eqb (freeMail b) (freeMail b) refl in cc
 
-  -- Receive: the place becomes free, and no other.
+  -- Receive: the place becomes free.
   pub received-free : (j p : ℕ) → result (receive j p) .tables .mail p ≡ none
   unfolding done
-  received-free j p = put-same (b .mail) p none
-
-  pub received-other : (j p q : ℕ) → (q ≡ p → ⊥) → result (receive j p) .tables .mail q ≡ b .mail q
-  unfolding done
-  received-other j p q ne = put-other (b .mail) p none q ne
+  received-free j p = let e = eq-eqb p p refl in cc
 
   -- Keep at j copies j's present row to the lowest free slot. Drop and discard free a slot or a place.
   pub kept-waits : (j : ℕ) → result (keep j) .tables .shelf (freeSlot b) ≡ some record { by = j; to = 0; row = b .seat j .row }
   unfolding done
-  kept-waits j = put-same (b .shelf) (freeSlot b) _
+  kept-waits j = let e = eq-eqb (freeSlot b) (freeSlot b) refl in cc
 
   pub dropped-free : (s : ℕ) → result (drop s) .tables .shelf s ≡ none
   unfolding done
-  dropped-free s = put-same (b .shelf) s none
+  dropped-free s = let e = eq-eqb s s refl in cc
 
   pub discarded-free : (p : ℕ) → result (discard p) .tables .mail p ≡ none
   unfolding done
-  discarded-free p = put-same (b .mail) p none
+  discarded-free p = let e = eq-eqb p p refl in cc
 
   -- The difference between two used slots is lag of e's entry minus lag of f's entry, at e's desk.
   pub gap-is : (s t : ℕ) (e f : Held) → b .shelf s ≡ some e → b .shelf t ≡ some f
@@ -118,18 +112,17 @@ two-owners d j k e f ne = rw (ne-eqb j k ne)
 -- Compare asks both ways. Same means the same owner, d of 0 and equal clocks; both ways yes is crossed.
 module _ (d d′ : Gap) (j k : ℕ) (e f : Row) where
   pub says-same : j ≡ k → sameBy d (e j .clock) (f j .clock) ≡ true → relation d d′ j k e f ≡ Same
-  says-same q s =
-      pick-true (eqb j k && sameBy d (e j .clock) (f j .clock)) Same _ (rw (eq-eqb j k q, s))
+  says-same q s = let t = eq-eqb j k q in cc
 
   module _ (other : (eqb j k && sameBy d (e j .clock) (f j .clock)) ≡ false) where
     pub says-before : isBefore d j k e f ≡ true → isBefore d′ k j f e ≡ false → relation d d′ j k e f ≡ Before
-    says-before p q = rw (other, p, q)
+    says-before p q = cc
 
     pub says-after : isBefore d j k e f ≡ false → isBefore d′ k j f e ≡ true → relation d d′ j k e f ≡ After
-    says-after p q = rw (other, p, q)
+    says-after p q = cc
 
     pub says-concurrent : isBefore d j k e f ≡ false → isBefore d′ k j f e ≡ false → relation d d′ j k e f ≡ Concurrent
-    says-concurrent p q = rw (other, p, q)
+    says-concurrent p q = cc
 
     pub says-crossed : isBefore d j k e f ≡ true → isBefore d′ k j f e ≡ true → relation d d′ j k e f ≡ Crossed
-    says-crossed p q = rw (other, p, q)
+    says-crossed p q = cc

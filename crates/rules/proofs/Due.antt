@@ -1,6 +1,6 @@
 -- The answer table: the number that an act answers is the smallest whose row is due.
 -- Assumes nothing.
-use mathlib.Core.Path.{_≡_, refl, ap, _∙_}
+use mathlib.Core.Path.{_≡_, refl, ap, sym, _∙_}
 use mathlib.Core.Bool.{Bool, true, false, not, _&&_, _||_, false≢true}
 use mathlib.Core.Option.{Option, none, some}
 use mathlib.Core.Logic.{_⊎_, inl, inr}
@@ -8,10 +8,10 @@ use Prim.Native.Nat.{ℕ, _+_, _*_, _≤_, _<_}
 use native.Mathlib.Omega.{arith}
 use lib.Dec.{ltb, eqb}
 use borrow.Author.Tests.{eqb-true, eqb-false, eq-eqb, ne-eqb, ltb-true, ltb-false, lt-ltb, le-ltb, not-true}
-use Rattle.tools.specs.Tests.{pick, any, lowest}
+use Rattle.tools.specs.Tests.{pick, any}
 use Rattle.tools.specs.Reasons.{Holds, Smallest}
 use Rattle.tools.proofs.Reasons.{smallest-swap}
-use Rattle.tools.proofs.Tests.{and-true-l, and-true-r, and-false, any-at, any-true, lowest-none, lowest-full, not-off}
+use Rattle.tools.proofs.Tests.{and-true-l, and-true-r, and-false, any-at, any-true, lt-or-le}
 use Rattle.ring.specs.Phases.{Phases, Gap}
 use Rattle.rules.specs.declared.Setup.{Setup}
 use Rattle.rules.specs.Numbers.{Name, NoDesk, SameDesk, NoPlace, NotYours, NoEvent, PhaseFull, MailFull, ShelfFull, SeatBehind}
@@ -23,6 +23,8 @@ use Rattle.rules.specs.Due.{of-discard, OfSlot, of-drop, of-before, of-b
 use Rattle.rules.specs.Due.{asks-before, asks-compare, asks-back, Gone, lagIn, Beyond, Due, no-desk, same-desk, no-mail, no-slot}
 use Rattle.rules.specs.Due.{not-yours, no-event, phase-full, mail-full, shelf-full, seat-behind, mail-behind, shelf-behind, no-room}
 use Rattle.rules.specs.Due.{out-of-reach, DueNumber}
+use Rattle.rules.specs.Frames.{LowestFree}
+use Rattle.rules.proofs.Frames.{lowest-place, lowest-slot}
 use Rattle.rules.proofs.Reasons.{act-number}
 
 -- each test of the list, and what its row says
@@ -64,13 +66,16 @@ is-beyond X d = go (ltb (d .up) (d .down + X .ahead)) (ltb (d .down) (d .up + X 
     go true false p q e = inr (ltb-false _ _ q)
     go false q p q′ e = inl (ltb-false _ _ p)
 
-full : (f : ℕ → Option Held) → ((p : ℕ) → p < 32 → used (f p) ≡ true)
-    → not (ltb (lowest 32 (λ p. not (used (f p)))) 32) ≡ true
-full f h = rw (lowest-none 32 (λ p. not (used (f p))) (λ p l. ap not (h p l)))
+-- the lowest free one is none of them just where all are used
+full : {f : ℕ → Option Held} {n : ℕ} → LowestFree f n → ((p : ℕ) → p < 32 → used (f p) ≡ true) → not (ltb n 32) ≡ true
+full {n = n} low h = go (lt-or-le n 32)
+  where
+    go : (n < 32) ⊎ (32 ≤ n) → not (ltb n 32) ≡ true
+    go (inl l) = absurd (false≢true (sym (ap used (low .free l)) ∙ h n l))
+    go (inr l) = at-least n 32 l
 
-is-full : (f : ℕ → Option Held) → not (ltb (lowest 32 (λ p. not (used (f p)))) 32) ≡ true
-    → (p : ℕ) → p < 32 → used (f p) ≡ true
-is-full f t p l = not-off (used (f p)) (lowest-full 32 (λ p. not (used (f p))) (is-least _ 32 t) p l)
+is-full : {f : ℕ → Option Held} {n : ℕ} → LowestFree f n → not (ltb n 32) ≡ true → (p : ℕ) → p < 32 → used (f p) ≡ true
+is-full {n = n} low t p l = low .below p (omega (arith, is-least n 32 t))
 
 module _ (Z : Phases) (X : Setup) (b : Tables) where
   is-behind : (j B : ℕ) (f : ℕ → Option Held) → any 32 (λ p. lags Z b j B (f p)) ≡ true
@@ -123,8 +128,8 @@ module _ (Z : Phases) (X : Setup) (b : Tables) where
   listed (phase-full (by-local {j = j}) l) = inr (inl (refl, at-limit j l))
   listed (phase-full (by-send {j = j}) l) = inr (inr (inl (refl, at-limit j l)))
   listed (phase-full (by-receive {j = j}) l) = inr (inr (inr (inl (refl, at-limit j l))))
-  listed (mail-full h) = inr (inr (inr (inl (refl, full (b .mail) h))))
-  listed (shelf-full h) = inr (inr (inl (refl, full (b .shelf) h)))
+  listed (mail-full h) = inr (inr (inr (inl (refl, full (lowest-place b) h))))
+  listed (shelf-full h) = inr (inr (inl (refl, full (lowest-slot b) h)))
   listed (seat-behind {j = j} {k = k} l ne q) =
       inr (inl (
         refl,
@@ -175,7 +180,7 @@ module _ (Z : Phases) (X : Setup) (b : Tables) where
       go (inr h) = due NoDesk q (no-desk at-sent (is-least _ _ h))
   told (send j i) k (inr (inl (q, h))) = due SameDesk q (rw (← (eqb-true j i h)) same-desk)
   told (send j i) k (inr (inr (inl (q, h)))) = due PhaseFull q (phase-full by-send (is-at-limit j h))
-  told (send j i) k (inr (inr (inr (inl (q, h))))) = due MailFull q (mail-full (is-full (b .mail) h))
+  told (send j i) k (inr (inr (inr (inl (q, h))))) = due MailFull q (mail-full (is-full (lowest-place b) h))
   told (send j i) k (inr (inr (inr (inr h)))) = absurd h
   told (receive j p) k (inl (q, h)) = due NoDesk q (no-desk at-receive (is-least _ _ h))
   told (receive j p) k (inr (inl (q, h))) = due NoPlace q (no-mail of-receive (is-gone p (b .mail p) h))
@@ -198,7 +203,7 @@ module _ (Z : Phases) (X : Setup) (b : Tables) where
   told (reset j) k (inr (inr (inr (inr h)))) = absurd h
   told (keep j) k (inl (q, h)) = due NoDesk q (no-desk at-keep (is-least _ _ h))
   told (keep j) k (inr (inl (q, h))) = due NoEvent q (no-event (not-true _ h))
-  told (keep j) k (inr (inr (inl (q, h)))) = due ShelfFull q (shelf-full (is-full (b .shelf) h))
+  told (keep j) k (inr (inr (inl (q, h)))) = due ShelfFull q (shelf-full (is-full (lowest-slot b) h))
   told (keep j) k (inr (inr (inr h))) = absurd h
   told (drop s) k (inl (q, h)) = due NoPlace q (no-slot of-drop (is-gone s (b .shelf s) h))
   told (drop s) k (inr h) = absurd h

@@ -2,6 +2,7 @@
 pub mod Setups
 pub mod Numbers
 pub mod Model
+pub mod Frames
 pub mod Calls
 pub mod Labels
 pub mod Replies

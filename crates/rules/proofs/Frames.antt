@@ -1,0 +1,136 @@
+-- DEMAND 2, what stays: in any arithmetic an act, accepted or refused, leaves every seat, mail place and slot as it was but what
+-- the rules have it touch; and the place of a send, the slot of a keep, is the lowest free one.
+-- Assumes nothing.
+use mathlib.Core.Path.{_≡_, refl}
+use mathlib.Core.Bool.{Bool, true, false, not, false≢true}
+use mathlib.Core.Option.{Option, none, some}
+use Prim.Native.Nat.{ℕ, zero, suc, _≤_, _<_}
+use native.Mathlib.Nat.{not-suc-le-zero, le-of-suc-le-suc}
+use native.Mathlib.Omega.{arith}
+use borrow.Author.Tests.{ne-eqb}
+use Rattle.tools.specs.Tests.{pick, lowest}
+use Rattle.tools.proofs.Tests.{not-off}
+use Rattle.ring.specs.Phases.{Phases}
+use Rattle.rules.specs.declared.Setup.{Setup}
+use Rattle.rules.specs.Model.{Held, Tables, Question, Act, local, reset, keep, drop, discard, send, receive, ask}
+use Rattle.rules.specs.Model.{used, freeMail, freeSlot, settle, why, done, step}
+use Rattle.rules.specs.Frames.{SameBut, touches, Stays, LowestFree}
+use Rattle.rules.specs.Calls.{Book, on, call}
+
+-- a table is the same as itself
+same : {A : Type 0} (o : Option ℕ) (f : ℕ → A) → SameBut o f f
+same none f = λ i. refl
+same (some k) f = λ i ne. refl
+
+module _ (Z : Phases) (X : Setup) (b : Tables) where
+  -- of what an accepted act leaves
+  done-stays : (c : Act) → Stays (touches b c) b (done Z X b c .tables)
+  unfolding done
+  done-stays (local j) = record { seats = λ i ne. let e = ne-eqb i j ne in cc; mail = λ p. refl; shelf = λ s. refl }
+  done-stays (send j k) =
+      record {
+        seats = λ i ne. let e = ne-eqb i j ne in cc;
+        mail = λ i ne. let e = ne-eqb i (freeMail b) ne in cc;
+        shelf = λ s. refl;
+      }
+  done-stays (receive j p) =
+      record {
+        seats = λ i ne. let e = ne-eqb i j ne in cc;
+        mail = λ i ne. let e = ne-eqb i p ne in cc;
+        shelf = λ s. refl;
+      }
+  done-stays (reset j) = record { seats = λ i ne. let e = ne-eqb i j ne in cc; mail = λ p. refl; shelf = λ s. refl }
+  done-stays (keep j) = record { seats = λ k. refl; mail = λ p. refl; shelf = λ i ne. let e = ne-eqb i (freeSlot b) ne in cc }
+  done-stays (drop s) = record { seats = λ k. refl; mail = λ p. refl; shelf = λ i ne. let e = ne-eqb i s ne in cc }
+  done-stays (discard p) = record { seats = λ k. refl; mail = λ i ne. let e = ne-eqb i p ne in cc; shelf = λ s. refl }
+  done-stays (ask q) = record { seats = λ k. refl; mail = λ p. refl; shelf = λ s. refl }
+
+  -- every other seat, mail place and slot is as it was
+  pub stays : (c : Act) → Stays (touches b c) b (step Z X b c .tables)
+  unfolding step
+  stays c = go (why Z X b c)
+    where
+      go : (n : ℕ) → Stays (touches b c) b (settle n b (done Z X b c) .tables)
+      go zero = done-stays c
+      go (suc n) =
+          record {
+            seats = same (touches b c .seat) (b .seat);
+            mail = same (touches b c .place) (b .mail);
+            shelf = same (touches b c .slot) (b .shelf);
+          }
+
+  abbrev SameSeats : Act → Type 0
+  SameSeats c = (j : ℕ) → step Z X b c .tables .seat j ≡ b .seat j
+
+  abbrev SameMail : Act → Type 0
+  SameMail c = (p : ℕ) → step Z X b c .tables .mail p ≡ b .mail p
+
+  abbrev SameShelf : Act → Type 0
+  SameShelf c = (s : ℕ) → step Z X b c .tables .shelf s ≡ b .shelf s
+
+  -- the four events leave the shelf, local and reset the mail too
+  pub events-leave-the-shelf : (j k p : ℕ)
+      → SameShelf (local j) × SameShelf (send j k) × SameShelf (receive j p) × SameShelf (reset j)
+  events-leave-the-shelf j k p =
+      (stays (local j) .shelf, stays (send j k) .shelf, stays (receive j p) .shelf, stays (reset j) .shelf)
+
+  pub local-reset-leave-the-mail : (j : ℕ) → SameMail (local j) × SameMail (reset j)
+  local-reset-leave-the-mail j = (stays (local j) .mail, stays (reset j) .mail)
+
+  -- keep, drop and discard are no events: they leave every seat
+  pub no-event-leaves-the-seats : (j s p : ℕ) → SameSeats (keep j) × SameSeats (drop s) × SameSeats (discard p)
+  no-event-leaves-the-seats j s p = (stays (keep j) .seats, stays (drop s) .seats, stays (discard p) .seats)
+
+  pub keep-drop-leave-the-mail : (j s : ℕ) → SameMail (keep j) × SameMail (drop s)
+  keep-drop-leave-the-mail j s = (stays (keep j) .mail, stays (drop s) .mail)
+
+  pub discard-leaves-the-shelf : (p : ℕ) → SameShelf (discard p)
+  discard-leaves-the-shelf p = stays (discard p) .shelf
+
+  -- before, compare, show and write leave everything
+  pub asking-leaves-all : (q : Question) → step Z X b (ask q) .tables ≡ b
+  unfolding step done
+  asking-leaves-all q = go (why Z X b (ask q))
+    where
+      go : (n : ℕ) → settle n b (done Z X b (ask q)) .tables ≡ b
+      go zero = refl
+      go (suc n) = refl
+
+-- an act leaves the setup
+pub setup-stays : (Z : Setup → Phases) (b : Book) (c : Act) → call Z b (on c) .book .setup ≡ b .setup
+unfolding call
+setup-stays Z b c = refl
+
+-- k is the lowest number below n of which p holds: it holds of none below k, and of k unless k is n
+abbrev Lowest : ℕ → (ℕ → Bool) → ℕ → Type 0
+Lowest n p k = (k ≤ n) × (k < n → p k ≡ true) × ((i : ℕ) → i < k → p i ≡ false)
+
+lowest-is : (n : ℕ) (p : ℕ → Bool) → Lowest n p (lowest n p)
+unfolding lowest
+lowest-is zero p = (omega arith, λ l. absurd (not-suc-le-zero l), λ i l. absurd (not-suc-le-zero l))
+lowest-is (suc n) p = go (p 0) refl (lowest n (λ i. p (suc i))) (lowest-is n (λ i. p (suc i)))
+  where
+    under : p 0 ≡ false → (k : ℕ) → ((i : ℕ) → i < k → p (suc i) ≡ false) → (i : ℕ) → i < suc k → p i ≡ false
+    under e k h zero l = e
+    under e k h (suc i) l = h i (le-of-suc-le-suc l)
+
+    go : (t : Bool) → p 0 ≡ t → (k : ℕ) → Lowest n (λ i. p (suc i)) k → Lowest (suc n) p (pick t zero (suc k))
+    go true e k h = (omega arith, λ l. e, λ i l. absurd (not-suc-le-zero l))
+    go false e k h = (omega (arith, h .0), λ l. h .1 (le-of-suc-le-suc l), under e k (h .2))
+
+-- so the lowest place or slot that is not used is free, and all below it are used
+lowest-free : (f : ℕ → Option Held) → LowestFree f (lowest 32 (λ p. not (used (f p))))
+lowest-free f =
+    let l = lowest-is 32 (λ p. not (used (f p))) in
+    record { within = l .0; free = λ m. unused _ (l .1 m); below = λ i m. not-off _ (l .2 i m) }
+  where
+    unused : (o : Option Held) → not (used o) ≡ true → o ≡ none
+    unused none e = refl
+    unused (some w) e = absurd (false≢true e)
+
+-- Send puts into the lowest free mail place, keep into the lowest free slot.
+pub lowest-place : (b : Tables) → LowestFree (b .mail) (freeMail b)
+lowest-place b = lowest-free (b .mail)
+
+pub lowest-slot : (b : Tables) → LowestFree (b .shelf) (freeSlot b)
+lowest-slot b = lowest-free (b .shelf)
