@@ -21,13 +21,13 @@ module _ (X : Setup) (j : ℕ) (e f : Row) where
   r = lagOf (X .phases) (f j .phase) (e j .phase)
 
   pub off-ahead : r < X .ahead → gapOff X j e f ≡ some record { up = r; down = 0 }
-  off-ahead l = rw (lt-ltb r (X .ahead) l)
+  off-ahead l = let t = lt-ltb r (X .ahead) l in cc
 
   pub off-back : X .ahead ≤ r → X .phases - r < X .back → gapOff X j e f ≡ some record { up = 0; down = X .phases - r }
-  off-back g l = rw (le-ltb r (X .ahead) g, lt-ltb (X .phases - r) (X .back) l)
+  off-back g l = let t = le-ltb r (X .ahead) g in let u = lt-ltb (X .phases - r) (X .back) l in cc
 
   pub off-out : X .ahead ≤ r → X .back ≤ X .phases - r → gapOff X j e f ≡ none
-  off-out g l = rw (le-ltb r (X .ahead) g, le-ltb (X .phases - r) (X .back) l)
+  off-out g l = let t = le-ltb r (X .ahead) g in let u = le-ltb (X .phases - r) (X .back) l in cc
 
 module _ (X : Setup) (e f : Option Label) where
   pub newest-after : compareOff X e f .value ≡ relates After → newestOff X e f ≡ First

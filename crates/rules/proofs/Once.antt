@@ -95,7 +95,7 @@ stamped-once r r′ e b b′ l l′ =
     go zero x (suc n′) x′ m e b b′ l l′ = absurd (omega arith)
     go (suc n) x zero x′ m e b b′ l l′ = absurd (omega arith)
     go (suc n) x (suc n′) x′ m e b b′ l l′ =
-        let q = b ∙ sym b′ in
+        let q : x ≡ x′ = cc in
         λ i. record { number = m i; stamp = q i }
 
 -- send
@@ -118,5 +118,5 @@ sent-once r r′ e b b′ l l′ = go (r .place) (r .stamp) (r′ .place) (r′ 
     go (Posts.Refused n) x (Posts.At p) x′ e b b′ l l′ = let v = same-stamp _ _ e in cc
     go (Posts.Refused n) x (Posts.Refused n′) x′ e b b′ l l′ =
         let m = number-once n n′ e in
-        let t = b ∙ sym b′ in
+        let t : x ≡ x′ = cc in
         λ i. record { place = Posts.Refused (m i); stamp = t i }
