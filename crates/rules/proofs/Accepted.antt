@@ -1,99 +1,114 @@
--- What an accepted act was not refused by: each law takes apart that no reason was given.
+-- What an accepted act was not refused by: of the rows of the answer table none was due.
 -- Assumes nothing.
-use mathlib.Core.Path.{_≡_, refl, subst}
-use mathlib.Core.Option.{none, some}
-use mathlib.Core.Bool.{true, false, not, _&&_, _||_}
-use Prim.Native.Nat.{ℕ, _+_, _*_, _<_}
-use lib.Dec.{ltb, eqb}
-use borrow.Author.Tests.{eqb-false, ltb-true}
-use Rattle.tools.specs.Tests.{any}
-use Rattle.tools.proofs.Tests.{any-false, not-off, and-true-l, and-true-r, or-false-l, or-false-r}
+use mathlib.Core.Path.{_≡_, refl, sym, subst, _∙_}
+use mathlib.Core.Option.{Option, none, some}
+use mathlib.Core.Bool.{Bool, true, false, not}
+use mathlib.Core.Logic.{_⊎_, inl, inr}
+use Prim.Native.Nat.{ℕ, _+_, _*_, _≤_, _<_}
+use native.Mathlib.Omega.{arith}
+use lib.Dec.{eqb}
+use borrow.Author.Tests.{eqb-true, eqb-false, not-true}
+use Rattle.tools.proofs.Tests.{and-true-l, and-true-r, lt-or-le}
 use Rattle.tools.proofs.Tables.{some-is, none-some}
-use Rattle.tools.proofs.Reasons.{clear}
 use Rattle.ring.specs.Phases.{Phases}
 use Rattle.rules.specs.declared.Setup.{Setup}
-use Rattle.rules.specs.Model.{Tables, Question, askBefore, askCompare, askShow, askWrite, slotAsked, local, reset, keep, send, receive, ask, askReasons, reasons, why}
-use Rattle.rules.specs.Model.{stamp, shows, freeMail, freeSlot, toIn, byIn, rowIn, used, own, lags, seatLags, askTells}
+use Rattle.rules.specs.Numbers.{Name, number}
+use Rattle.rules.specs.Model.{Held, Tables, Question, askBefore, askCompare, askShow, askWrite, slotAsked, Act, local, reset, keep}
+use Rattle.rules.specs.Model.{send, receive, ask, why, stamp, shows, freeMail, freeSlot, byIn, rowIn, used, own, lags, seatLags}
+use Rattle.rules.specs.Model.{askTells}
+use Rattle.rules.specs.Frames.{LowestFree}
+use Rattle.rules.specs.Due.{at-local, at-send, at-sent, at-receive, at-reset, at-keep, by-local, by-send, by-receive, of-receive}
+use Rattle.rules.specs.Due.{OfSlot, of-show, of-write, Gone, lagIn, Due, no-desk, same-desk, no-mail, no-slot, no-event, phase-full}
+use Rattle.rules.specs.Due.{mail-full, shelf-full, seat-behind, mail-behind, shelf-behind}
+use Rattle.rules.proofs.Steps.{step-number}
+use Rattle.rules.proofs.Frames.{lowest-place, lowest-slot}
+use Rattle.rules.proofs.Due.{table}
 
-pub no-local : (Z : Phases) (X : Setup) (b : Tables) (j : ℕ) → why Z X b (local j) ≡ 0 → (j < X .desks) × (own b j .clock + 1 < X .clocks)
-unfolding reasons
-no-local Z X b j e =
-    let a = clear (not (ltb j (X .desks))) 2 _ e in
-    let c = clear (not (ltb (own b j .clock + 1) (X .clocks))) 7 _ (a .1) in
-    (ltb-true _ _ (not-off _ (a .0)), ltb-true _ _ (not-off _ (c .0)))
+-- what is not so is otherwise
+below : (a n : ℕ) → (n ≤ a → ⊥) → a < n
+below a n f = go (lt-or-le a n)
+  where
+    go : (a < n) ⊎ (n ≤ a) → a < n
+    go (inl l) = l
+    go (inr l) = absurd (f l)
 
-pub no-send : (Z : Phases) (X : Setup) (b : Tables) (j k : ℕ) → why Z X b (send j k) ≡ 0
-    → (j < X .desks) × (own b j .clock + 1 < X .clocks) × (freeMail b < 32) × (k < X .desks) × (j ≡ k → ⊥)
-unfolding reasons
-no-send Z X b j k e =
-    let a = clear (not (ltb j (X .desks)) || not (ltb k (X .desks))) 2 _ e in
-    let c = clear (eqb j k) 3 _ (a .1) in
-    let d = clear (not (ltb (own b j .clock + 1) (X .clocks))) 7 _ (c .1) in
-    let f = clear (not (ltb (freeMail b) 32)) 8 _ (d .1) in (
-      ltb-true _ _ (not-off _ (or-false-l _ _ (a .0))),
-      ltb-true _ _ (not-off _ (d .0)),
-      ltb-true _ _ (not-off _ (f .0)),
-      ltb-true _ _ (not-off _ (or-false-r (not (ltb j (X .desks))) _ (a .0))),
-      eqb-false _ _ (c .0),
-    )
+off : (t : Bool) → (t ≡ true → ⊥) → t ≡ false
+off true f = absurd (f refl)
+off false f = refl
 
-pub no-receive : (Z : Phases) (X : Setup) (b : Tables) (j p : ℕ) → why Z X b (receive j p) ≡ 0
-    → (j < X .desks) × (used (b .mail p) ≡ true) × (own b j .clock + 1 < X .clocks) × (p < 32)
-unfolding reasons
-no-receive Z X b j p e =
-    let a = clear (not (ltb j (X .desks))) 2 _ e in
-    let c = clear (not (used (b .mail p) && ltb p 32)) 4 _ (a .1) in
-    let d = clear (not (eqb (toIn (b .mail p)) j)) 5 _ (c .1) in
-    let f = clear (not (ltb (own b j .clock + 1) (X .clocks))) 7 _ (d .1) in
-    let both = not-off _ (c .0) in (
-      ltb-true _ _ (not-off _ (a .0)),
-      and-true-l _ _ both,
-      ltb-true _ _ (not-off _ (f .0)),
-      ltb-true _ _ (and-true-r (used (b .mail p)) (ltb p 32) both),
-    )
+on : (t : Bool) → (t ≡ false → ⊥) → t ≡ true
+on true f = refl
+on false f = absurd (f refl)
 
-pub no-reset : (Z : Phases) (X : Setup) (b : Tables) (j : ℕ) → why Z X b (reset j) ≡ 0
-    → (j < X .desks)
-    × ((s : ℕ) → s < X .desks → seatLags Z b j (X .seatLag) s ≡ false)
-    × ((p : ℕ) → p < 32 → lags Z b j (2 * X .seatLag) (b .mail p) ≡ false)
-    × ((p : ℕ) → p < 32 → lags Z b j (X .shelfLag) (b .shelf p) ≡ false)
-unfolding reasons
-no-reset Z X b j e =
-    let a = clear (not (ltb j (X .desks))) 2 _ e in
-    let c = clear (any (X .desks) (seatLags Z b j (X .seatLag))) 10 _ (a .1) in
-    let d = clear (any 32 (λ p. lags Z b j (2 * X .seatLag) (b .mail p))) 11 _ (c .1) in
-    let f = clear (any 32 (λ p. lags Z b j (X .shelfLag) (b .shelf p))) 12 _ (d .1) in
-    (ltb-true _ _ (not-off _ (a .0)), any-false _ _ (c .0), any-false _ _ (d .0), any-false _ _ (f .0))
+-- a place or slot that is not gone is used; where not all are used, one is free
+there : (p : ℕ) (o : Option Held) → (Gone p o → ⊥) → (used o ≡ true) × (p < 32)
+there p none f = absurd (f (inr refl))
+there p (some w) f = (refl, below p 32 (λ l. f (inl l)))
 
-pub no-keep : (Z : Phases) (X : Setup) (b : Tables) (j : ℕ) → why Z X b (keep j) ≡ 0
-    → (j < X .desks) × (b .seat j .started ≡ true) × (freeSlot b < 32)
-unfolding reasons
-no-keep Z X b j e =
-    let a = clear (not (ltb j (X .desks))) 2 _ e in
-    let c = clear (not (b .seat j .started)) 6 _ (a .1) in
-    let d = clear (not (ltb (freeSlot b) 32)) 9 _ (c .1) in
-    (ltb-true _ _ (not-off _ (a .0)), not-off _ (c .0), ltb-true _ _ (not-off _ (d .0)))
+room : {f : ℕ → Option Held} {n : ℕ} → LowestFree f n → (((p : ℕ) → p < 32 → used (f p) ≡ true) → ⊥) → n < 32
+room {n = n} low f = below n 32 (λ l. f (λ p m. low .below p (omega (arith, l, m))))
 
-used-slot : (b : Tables) (s : ℕ) → not (used (b .shelf s) && ltb s 32) ≡ false → (used (b .shelf s) ≡ true) × (s < 32)
-used-slot b s e =
-    let both = not-off _ e in
-    (and-true-l _ _ both, ltb-true _ _ (and-true-r (used (b .shelf s)) (ltb s 32) both))
-
--- a question hands out no stamp but that of a used slot
-pub no-ask : (Z : Phases) (X : Setup) (b : Tables) (q : Question) (s : ℕ) → slotAsked q ≡ some s → why Z X b (ask q) ≡ 0
-    → (used (b .shelf s) ≡ true) × (s < 32)
-unfolding reasons askReasons
-no-ask Z X b (askBefore u t) s e z = absurd (none-some e)
-no-ask Z X b (askCompare u t) s e z = absurd (none-some e)
-no-ask Z X b (askShow u) s e z =
-    subst (λ n. (used (b .shelf n) ≡ true) × (n < 32)) (some-is e)
-    (used-slot b u (clear (not (used (b .shelf u) && ltb u 32)) 4 _ z .0))
-no-ask Z X b (askWrite u room) s e z =
-    subst (λ n. (used (b .shelf n) ≡ true) × (n < 32)) (some-is e)
-    (used-slot b u (clear (not (used (b .shelf u) && ltb u 32)) 4 _ z .0))
-
--- what a question hands out: no stamp; or of its slot the row alone, or the stamp
 module _ (Z : Phases) (X : Setup) (b : Tables) where
+  -- no row is due to an act that is accepted
+  none-due : {c : Act} → why Z X b c ≡ 0 → {w : Name} → Due Z X b c w → ⊥
+  none-due {c = c} e {w = w} d = table Z X b c .none .0 (step-number Z X b c ∙ e) (number w) (w, refl, d)
+
+  pub no-local : (j : ℕ) → why Z X b (local j) ≡ 0 → (j < X .desks) × (own b j .clock + 1 < X .clocks)
+  no-local j e =
+      (below _ _ (λ l. none-due e (no-desk at-local l)), below _ _ (λ l. none-due e (phase-full by-local l)))
+
+  pub no-send : (j k : ℕ) → why Z X b (send j k) ≡ 0
+      → (j < X .desks) × (own b j .clock + 1 < X .clocks) × (freeMail b < 32) × (k < X .desks) × (j ≡ k → ⊥)
+  no-send j k e = (
+    below _ _ (λ l. none-due e (no-desk at-send l)),
+    below _ _ (λ l. none-due e (phase-full by-send l)),
+    room (lowest-place b) (λ h. none-due e (mail-full h)),
+    below _ _ (λ l. none-due e (no-desk at-sent l)),
+    λ q. none-due (subst (λ n. why Z X b (send j n) ≡ 0) (sym q) e) same-desk,
+  )
+
+  pub no-receive : (j p : ℕ) → why Z X b (receive j p) ≡ 0
+      → (j < X .desks) × (used (b .mail p) ≡ true) × (own b j .clock + 1 < X .clocks) × (p < 32)
+  no-receive j p e =
+      let t = there p (b .mail p) (λ g. none-due e (no-mail of-receive g)) in
+      (below _ _ (λ l. none-due e (no-desk at-receive l)), t .0, below _ _ (λ l. none-due e (phase-full by-receive l)), t .1)
+
+  -- what does not lag just so far
+  in-time : (j B : ℕ) (o : Option Held) → ((w : Held) → o ≡ some w → lagIn Z b j w ≡ B → ⊥) → lags Z b j B o ≡ false
+  in-time j B none f = refl
+  in-time j B (some w) f = off _ (λ t. f w refl (eqb-true _ _ t))
+
+  pub no-reset : (j : ℕ) → why Z X b (reset j) ≡ 0
+      → (j < X .desks)
+      × ((s : ℕ) → s < X .desks → seatLags Z b j (X .seatLag) s ≡ false)
+      × ((p : ℕ) → p < 32 → lags Z b j (2 * X .seatLag) (b .mail p) ≡ false)
+      × ((p : ℕ) → p < 32 → lags Z b j (X .shelfLag) (b .shelf p) ≡ false)
+  no-reset j e = (
+    below _ _ (λ l. none-due e (no-desk at-reset l)),
+    λ s l. off _ (λ t. none-due e
+        (seat-behind l (eqb-false s j (not-true _ (and-true-l _ _ t))) (eqb-true _ _ (and-true-r (not (eqb s j)) _ t)))),
+    λ p l. in-time j _ (b .mail p) (λ w q t. none-due e (mail-behind l q t)),
+    λ s l. in-time j _ (b .shelf s) (λ w q t. none-due e (shelf-behind l q t)),
+  )
+
+  pub no-keep : (j : ℕ) → why Z X b (keep j) ≡ 0 → (j < X .desks) × (b .seat j .started ≡ true) × (freeSlot b < 32)
+  no-keep j e = (
+    below _ _ (λ l. none-due e (no-desk at-keep l)),
+    on _ (λ q. none-due e (no-event q)),
+    room (lowest-slot b) (λ h. none-due e (shelf-full h)),
+  )
+
+  of-slot : (q : Question) (s : ℕ) → slotAsked q ≡ some s → OfSlot (ask q) s
+  of-slot (askBefore u t) s e = absurd (none-some e)
+  of-slot (askCompare u t) s e = absurd (none-some e)
+  of-slot (askShow u) s e = subst (OfSlot (ask (askShow u))) (some-is e) of-show
+  of-slot (askWrite u room) s e = subst (OfSlot (ask (askWrite u room))) (some-is e) of-write
+
+  -- a question hands out no stamp but that of a used slot
+  pub no-ask : (q : Question) (s : ℕ) → slotAsked q ≡ some s → why Z X b (ask q) ≡ 0 → (used (b .shelf s) ≡ true) × (s < 32)
+  no-ask q s e z = there s (b .shelf s) (λ g. none-due z (no-slot (of-slot q s e) g))
+
+  -- what a question hands out: no stamp; or of its slot the row alone, or the stamp
   pub data Hands (q : Question) : Type 0 where
     no-stamp : slotAsked q ≡ none → askTells Z X b q .stamp ≡ none → askTells Z X b q .row ≡ none → Hands q
     row-of : (s : ℕ) → slotAsked q ≡ some s → askTells Z X b q ≡ shows (rowIn (b .shelf s)) → Hands q
