@@ -45,8 +45,8 @@ there : (p : ℕ) (o : Option Held) → (Gone p o → ⊥) → (used o ≡ true)
 there p none f = absurd (f (inr refl))
 there p (some w) f = (refl, below p 32 (λ l. f (inl l)))
 
-room : {f : ℕ → Option Held} {n : ℕ} → LowestFree f n → (((p : ℕ) → p < 32 → used (f p) ≡ true) → ⊥) → n < 32
-room {n = n} low f = below n 32 (λ l. f (λ p m. low .below p (omega (arith, l, m))))
+one-free : {f : ℕ → Option Held} {n : ℕ} → LowestFree f n → (((p : ℕ) → p < 32 → used (f p) ≡ true) → ⊥) → n < 32
+one-free {n = n} low f = below n 32 (λ l. f (λ p m. low .below p (omega (arith, l, m))))
 
 module _ (Z : Phases) (X : Setup) (b : Tables) where
   -- no row is due to an act that is accepted
@@ -62,7 +62,7 @@ module _ (Z : Phases) (X : Setup) (b : Tables) where
   no-send j k e = (
     below _ _ (λ l. none-due e (no-desk at-send l)),
     below _ _ (λ l. none-due e (phase-full by-send l)),
-    room (lowest-place b) (λ h. none-due e (mail-full h)),
+    one-free (lowest-place b) (λ h. none-due e (mail-full h)),
     below _ _ (λ l. none-due e (no-desk at-sent l)),
     λ q. none-due (subst (λ n. why Z X b (send j n) ≡ 0) (sym q) e) same-desk,
   )
@@ -95,7 +95,7 @@ module _ (Z : Phases) (X : Setup) (b : Tables) where
   no-keep j e = (
     below _ _ (λ l. none-due e (no-desk at-keep l)),
     on _ (λ q. none-due e (no-event q)),
-    room (lowest-slot b) (λ h. none-due e (shelf-full h)),
+    one-free (lowest-slot b) (λ h. none-due e (shelf-full h)),
   )
 
   of-slot : (q : Question) (s : ℕ) → slotAsked q ≡ some s → OfSlot (ask q) s

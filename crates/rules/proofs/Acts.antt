@@ -11,9 +11,10 @@ use Rattle.ring.specs.Phases.{Phases, Gap, laterBy, lagGap, later}
 use Rattle.rules.specs.declared.Setup.{Setup}
 use Rattle.rules.specs.declared.Relation.the-variants.{Before, After, Same, Concurrent, Crossed}
 use Rattle.rules.specs.Numbers.{Name}
-use Rattle.rules.specs.Model.{Row, Held, Tables, Act, local, reset, keep, drop, discard, send, receive, stamp, sent, accepted, Result}
-use Rattle.rules.specs.Model.{own, freeMail, freeSlot, grown, merged, turned, near, sameBy, isBefore, relation, gapFrom, done, step}
-use Rattle.rules.specs.Model.{settle}
+use Rattle.rules.specs.Model.{Row, Held, Tables, Act, local, reset, keep, drop, discard, send, receive}
+use Rattle.rules.specs.Model.{before, compare, show, write, nothing, stamp, sent, slot, says, relates, shows, accepted, Result}
+use Rattle.rules.specs.Model.{own, freeMail, freeSlot, grown, merged, turned, near, gapIn, sameBy, isBefore, relation, gapFrom}
+use Rattle.rules.specs.Model.{byIn, rowIn, askTells, settle, done, step}
 use Rattle.rules.specs.Due.{Due}
 use Rattle.rules.proofs.Steps.{step-number}
 use Rattle.rules.proofs.Due.{table}
@@ -83,23 +84,48 @@ module _ (Z : Phases) (X : Setup) (b : Tables) where
   unfolding done
   received-free j p = let e = eq-eqb p p refl in cc
 
-  -- Keep at j copies j's present row to the lowest free slot. Drop and discard free a slot or a place.
-  pub kept-waits : (j : ℕ) → result (keep j) .tables .shelf (freeSlot b) ≡ some record { by = j; to = 0; row = b .seat j .row }
+  -- Keep at j copies j's present row to the lowest free slot and answers the slot.
+  pub kept-waits : (j : ℕ) → (result (keep j) .answer ≡ accepted (slot (freeSlot b)))
+      × (result (keep j) .tables .shelf (freeSlot b) ≡ some record { by = j; to = 0; row = b .seat j .row })
   unfolding done
-  kept-waits j = let e = eq-eqb (freeSlot b) (freeSlot b) refl in cc
+  kept-waits j = (refl, let e = eq-eqb (freeSlot b) (freeSlot b) refl in cc)
 
-  pub dropped-free : (s : ℕ) → result (drop s) .tables .shelf s ≡ none
+  -- Drop and discard free a slot or a place, and answer nothing more.
+  pub dropped-free : (s : ℕ) → (result (drop s) .answer ≡ accepted nothing) × (result (drop s) .tables .shelf s ≡ none)
   unfolding done
-  dropped-free s = let e = eq-eqb s s refl in cc
+  dropped-free s = (refl, let e = eq-eqb s s refl in cc)
 
-  pub discarded-free : (p : ℕ) → result (discard p) .tables .mail p ≡ none
+  pub discarded-free : (p : ℕ) → (result (discard p) .answer ≡ accepted nothing) × (result (discard p) .tables .mail p ≡ none)
   unfolding done
-  discarded-free p = let e = eq-eqb p p refl in cc
+  discarded-free p = (refl, let e = eq-eqb p p refl in cc)
 
   -- The difference between two used slots is lag of e's entry minus lag of f's entry, at e's desk.
   pub gap-is : (s t : ℕ) (e f : Held) → b .shelf s ≡ some e → b .shelf t ≡ some f
       → gapFrom Z X b s t ≡ near X (lagGap Z (own b (e .by) .phase) (e .row (e .by)) (f .row (e .by)))
   gap-is s t e f p q = rw (p, q)
+
+  -- The questions tell of the stamps in their slots: whether e is before f, how it stands to f, its row, its owner and row.
+  module _ (s t : ℕ) (e f : Held) (p : b .shelf s ≡ some e) (q : b .shelf t ≡ some f) where
+    pub before-tells : result (before s t) .answer
+        ≡ accepted (says (isBefore (gapIn (gapFrom Z X b s t)) (e .by) (f .by) (e .row) (f .row)))
+    unfolding done askTells
+    before-tells = λ i. accepted (says (isBefore (gapIn (gapFrom Z X b s t)) (byIn (p i)) (byIn (q i)) (rowIn (p i)) (rowIn (q i))))
+
+    pub compare-tells : result (compare s t) .answer
+        ≡ accepted (relates (relation (gapIn (gapFrom Z X b s t)) (gapIn (gapFrom Z X b t s)) (e .by) (f .by) (e .row) (f .row)))
+    unfolding done askTells
+    compare-tells = λ i.
+        let d = gapIn (gapFrom Z X b s t) in
+        let d′ = gapIn (gapFrom Z X b t s) in
+        accepted (relates (relation d d′ (byIn (p i)) (byIn (q i)) (rowIn (p i)) (rowIn (q i))))
+
+  pub show-tells : (s : ℕ) (e : Held) → b .shelf s ≡ some e → result (show s) .answer ≡ accepted (shows (e .row))
+  unfolding done askTells
+  show-tells s e p = cc
+
+  pub write-tells : (s room : ℕ) (e : Held) → b .shelf s ≡ some e → result (write s room) .answer ≡ accepted (stamp (e .by) (e .row))
+  unfolding done askTells
+  write-tells s room e p = cc
 
 -- Before: for one owner, yes when f's pair is strictly later; for different owners, when it is e's own pair or later.
 pub one-owner : (d : Gap) (j : ℕ) (e f : Row) → isBefore d j j e f ≡ laterBy d (e j .clock) (f j .clock)
