@@ -2,7 +2,7 @@
 -- Assumes nothing.
 --   readAs o         the answer to reading a record that tells the stamp o, or none: BadStamp
 --   ownerSays w l    what the owner or refusal w says, with the row bytes l beside it
---   readSays r       what the reading r says: the paper's number and stamp
+--   readSays r       what the reading r says: its number and stamp
 --   rowBeside w l    the row bytes l beside w: blank where it is a refusal
 --   Readable X e     the stamp e is one that a record can tell under the setup X: in range, and zero where there is no desk
 --   newestPart w a b the bytes of the record that w names: a, b, or none

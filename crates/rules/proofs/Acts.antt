@@ -1,4 +1,4 @@
--- DEMAND 2 on books without bytes: what each accepted act leaves and answers, in the words of document 01, in any arithmetic.
+-- DEMAND 2 on books without bytes: what each accepted act leaves and answers, in any arithmetic.
 -- Assumes nothing.
 use mathlib.Core.Path.{_≡_, refl, ap, sym, _∙_}
 use mathlib.Core.Bool.{true, false, _&&_, _||_}

@@ -2,14 +2,12 @@
 -- the rules have it touch; and the place of a send, the slot of a keep, is the lowest free one.
 -- Assumes nothing.
 use mathlib.Core.Path.{_≡_, refl}
-use mathlib.Core.Bool.{Bool, true, false, not, false≢true}
+use mathlib.Core.Bool.{true, not, false≢true}
 use mathlib.Core.Option.{Option, none, some}
-use Prim.Native.Nat.{ℕ, zero, suc, _≤_, _<_}
-use native.Mathlib.Nat.{not-suc-le-zero, le-of-suc-le-suc}
-use native.Mathlib.Omega.{arith}
+use Prim.Native.Nat.{ℕ, zero, suc}
 use borrow.Author.Tests.{ne-eqb}
-use Rattle.tools.specs.Tests.{pick, lowest}
-use Rattle.tools.proofs.Tests.{not-off}
+use Rattle.tools.specs.Tests.{lowest}
+use Rattle.tools.proofs.Tests.{not-off, lowest-is}
 use Rattle.ring.specs.Phases.{Phases}
 use Rattle.rules.specs.declared.Setup.{Setup}
 use Rattle.rules.specs.Model.{Held, Tables, Question, Act, local, reset, keep, drop, discard, send, receive, ask}
@@ -101,24 +99,7 @@ pub setup-stays : (Z : Setup → Phases) (b : Book) (c : Act) → call Z b (on c
 unfolding call
 setup-stays Z b c = refl
 
--- k is the lowest number below n of which p holds: it holds of none below k, and of k unless k is n
-abbrev Lowest : ℕ → (ℕ → Bool) → ℕ → Type 0
-Lowest n p k = (k ≤ n) × (k < n → p k ≡ true) × ((i : ℕ) → i < k → p i ≡ false)
-
-lowest-is : (n : ℕ) (p : ℕ → Bool) → Lowest n p (lowest n p)
-unfolding lowest
-lowest-is zero p = (omega arith, λ l. absurd (not-suc-le-zero l), λ i l. absurd (not-suc-le-zero l))
-lowest-is (suc n) p = go (p 0) refl (lowest n (λ i. p (suc i))) (lowest-is n (λ i. p (suc i)))
-  where
-    under : p 0 ≡ false → (k : ℕ) → ((i : ℕ) → i < k → p (suc i) ≡ false) → (i : ℕ) → i < suc k → p i ≡ false
-    under e k h zero l = e
-    under e k h (suc i) l = h i (le-of-suc-le-suc l)
-
-    go : (t : Bool) → p 0 ≡ t → (k : ℕ) → Lowest n (λ i. p (suc i)) k → Lowest (suc n) p (pick t zero (suc k))
-    go true e k h = (omega arith, λ l. e, λ i l. absurd (not-suc-le-zero l))
-    go false e k h = (omega (arith, h .0), λ l. h .1 (le-of-suc-le-suc l), under e k (h .2))
-
--- so the lowest place or slot that is not used is free, and all below it are used
+-- the lowest place or slot that is not used is free, and all below it are used
 lowest-free : (f : ℕ → Option Held) → LowestFree f (lowest 32 (λ p. not (used (f p))))
 lowest-free f =
     let l = lowest-is 32 (λ p. not (used (f p))) in
