@@ -1,7 +1,7 @@
 -- The answers to before and compare off the book, from what was read on.
 -- Assumes nothing.
 use Prim.Native.Nat.{ℕ, zero, suc, _+_, _-_, _<_, _≤_}
-use mathlib.Core.Path.{_≡_, refl, sym, ap, _∙_}
+use mathlib.Core.Path.{_≡_, refl, sym, ap, _∙_, subst}
 use mathlib.Core.Bool.{Bool, true, false, not, _||_, false≢true}
 use mathlib.Core.Option.{Option, none, some}
 use mathlib.Core.List.{List, []}
@@ -20,16 +20,17 @@ use Rattle.rules.specs.Setups.{permits}
 use Rattle.rules.specs.Numbers.{BadStamp, number}
 use Rattle.rules.specs.Model.{Row, stamp, relates, Answer, refusal, accepted, near, isOut}
 use Rattle.rules.specs.Model.{Label}
-use Rattle.rules.specs.Labels.{reads, ownerIn, rowRead, gapOff, gapRead, whyOff, beforeOff, compareOff, newer, newestBy, newestOff}
+use Rattle.rules.specs.Labels.{reads, ownerIn, rowRead, gapOff, gapRead, whyOff, beforeOff, compareOff, newer, newestBy, newestOff, Neither}
 use Rattle.rules.specs.Replies.{rowOf, comparedSays}
 use Rattle.rules.proofs.Setups.{Permitted, permitted}
 use Rattle.book.specs.Layout.{rowSpot, phaseSpot, clockSpot}
 use Rattle.book.specs.Stamps.{labelOf, readOk, readStamp}
 use Rattle.comparing.specs.Answers.{beforeBy, compareBy}
 use Rattle.comparing.proofs.Answers.{before-off, compare-off}
+use Rattle.parts.specs.Slices.{Slice}
 use Rattle.labels.specs.declared.Owner.{Owner}
 use Rattle.labels.specs.declared.Owner.the-variants.{Of, Refused}
-use Rattle.labels.specs.Records.{readAs, ownerSays, rowBeside, newestPart}
+use Rattle.labels.specs.Records.{readAs, ownerSays, rowBeside, HandedBack}
 use Rattle.labels.specs.Asked.{ownerRead, Both, WayRead, Owned}
 use Rattle.labels.proofs.Records.{label-pair, row-dropped, pair-below, stamp-told, read-readable}
 
@@ -210,11 +211,13 @@ module _ (X : Setup) (a b : List ℕ) (j k : ℕ) (h : Owned X a b j k) where
       ∙ compare-off X e f (h .both .fair) (h .both .one) (h .both .two)
 
 -- what newest hands back, by the answer to compare
-module _ (X : Setup) (e f : Option Label) (r : Compared) (told : comparedSays r ≡ compareOff X e f) (a b : List ℕ) where
-  pub newest-by : (q n : Relation) → r ≡ Compares.Is q → q ≡ n → newestPart (newer n) a b ≡ newestPart (newestOff X e f) a b
-  newest-by q n h same =
-      ap (λ (d : Answer). newestPart (newestBy (d .value)) a b)
-      (ap (λ (x : Relation). accepted (relates x)) (sym same) ∙ sym (ap comparedSays h) ∙ told)
+module _ (X : Setup) (e f : Option Label) (r : Compared) (told : comparedSays r ≡ compareOff X e f) (a b p : Slice) where
+  handed : (d : Answer) → d ≡ comparedSays r → HandedBack (newestBy (d .value)) a b p → HandedBack (newestOff X e f) a b p
+  handed d h = subst (λ (g : Answer). HandedBack (newestBy (g .value)) a b p) (h ∙ told)
 
-  pub newest-none : (n : ℕ) → r ≡ Compares.Refused n → [] ≡ newestPart (newestOff X e f) a b
-  newest-none n h = ap (λ (d : Answer). newestPart (newestBy (d .value)) a b) (sym (ap comparedSays h) ∙ told)
+  pub newest-by : {q n : Relation} → r ≡ Compares.Is q → q ≡ n → HandedBack (newer n) a b p → HandedBack (newestOff X e f) a b p
+  newest-by {q} {n} h same =
+      handed (accepted (relates n)) (ap (λ (x : Relation). accepted (relates x)) (sym same) ∙ sym (ap comparedSays h))
+
+  pub newest-none : {n : ℕ} → r ≡ Compares.Refused n → HandedBack Neither a b p → HandedBack (newestOff X e f) a b p
+  newest-none {n} h = handed (refusal n) (sym (ap comparedSays h))

@@ -7,18 +7,21 @@
 --   Readable X e     the stamp e is one that a record can tell under the setup X: in range, and zero where there is no desk
 --   newestPart w a b the bytes of the record that w names: a, b, or none
 --   newestOf X a b   what newest hands back of the bytes a and b
+--   HandedBack w a b r   the slice r is the caller's own bytes that w names: the slice a itself, b itself, or an empty part of a
 use mathlib.Core.Path.{_≡_}
 use mathlib.Core.Bool.{true}
 use mathlib.Core.Option.{Option, none, some}
 use mathlib.Core.List.{List, []}
 use Prim.Native.Nat.{ℕ, _<_}
 use lib.ListN.{replicate}
+use denote.Ref.{ptr, now}
 use Rattle.rules.specs.declared.Setup.{Setup}
 use Rattle.rules.specs.Numbers.{BadStamp, number}
 use Rattle.rules.specs.Model.{Label, stamp, Answer, refusal, accepted}
 use Rattle.rules.specs.Labels.{newestOff, Which, First, Second, Neither}
 use Rattle.rules.specs.Replies.{rowOf}
 use Rattle.book.specs.Stamps.{pairReads, readStamp}
+use Rattle.parts.specs.Slices.{Slice, place}
 use Rattle.labels.specs.declared.Owner.{Owner}
 use Rattle.labels.specs.declared.Owner.the-variants.{Of, Refused}
 use Rattle.labels.specs.declared.Reading.{Reading}
@@ -49,3 +52,8 @@ newestPart Neither a b = []
 
 abbrev pub newestOf : Setup → List ℕ → List ℕ → List ℕ
 newestOf X a b = newestPart (newestOff X (readStamp X a) (readStamp X b)) a b
+
+abbrev pub HandedBack : Which → Slice → Slice → Slice → Type 0
+HandedBack First a b r = r ≡ a
+HandedBack Second a b r = r ≡ b
+HandedBack Neither a b r = (ptr r ≡ place a 0) × (now r ≡ [])

@@ -1,0 +1,2 @@
+-- Slices that are lent.
+pub mod Slices
