@@ -10,6 +10,7 @@ use borrow.Author.Tests.{le-ltb}
 use lib.ListN.{length, take, drop, length-drop}
 use lib.Seq.{length-take-le, getD-take, getD-drop}
 use Rattle.tools.specs.Lists.{byte, tab}
+use Rattle.tools.specs.Reasons.{ifDone}
 use Rattle.tools.proofs.Lists.{is-tab}
 use Rattle.ring.specs.Phases.{Gap}
 use Rattle.rules.specs.declared.Setup.{Setup}
@@ -27,14 +28,14 @@ use Rattle.book.proofs.Soundness.{sound-size}
 use Rattle.rules.proofs.RowBytes.{rows-alike, row-of-bytes}
 use Rattle.book.proofs.Rows.{row-there}
 use Rattle.book.proofs.Told.{read-at}
-use Rattle.book.proofs.Numbers.{accepted-answer}
+use Rattle.book.proofs.Numbers.{answer-number, accepted-answer}
 use Rattle.book.proofs.Answers.{answer-is}
 use Rattle.comparing.specs.declared.Way.{Way}
 use Rattle.comparing.specs.Ways.{WayOf}
 use Rattle.comparing.specs.Answers.{beforeBy, compareBy}
 use Rattle.comparing.proofs.Answers.{before-on, compare-on}
 use Rattle.refusals.proofs.Slots.{Two, show-one, write-one}
-use Rattle.asking.specs.Slots.{WayBetween, recordFor}
+use Rattle.asking.specs.Slots.{WayBetween, partFrom, recordFor}
 use Rattle.asking.proofs.Slots.{slot-place, slot-row}
 
 -- two used slots, of the desks j and l; X is the setup as it was read
@@ -106,6 +107,10 @@ module _ (s : List ℕ) (i : ℕ) where
       part-tab 16 (spot (shelfFrom + i) rowSpot) s (omega (arith, l, sound-size s (o .whole))) ∙ row-there s (shelfFrom + i)
       ∙ row-read s (shelfFrom + i) ∙ ap rowBytes (sym (slot-row s i (o .used)))
       ∙ ap (λ (a : Answer). partIn (a .value)) (accepted-answer s (show i) e)
+
+  -- and where it begins
+  pub show-from : numberOf s (show i) ≡ 0 → spot (shelfFrom + i) rowSpot ≡ partFrom s i
+  show-from e = ap (λ (n : ℕ). ifDone n (spot (shelfFrom + i) rowSpot) 0) (sym (answer-number s (show i) ∙ e))
 
   -- the record that write fills in
   pub write-record : (room : ℕ) → numberOf s (write i room) ≡ 0 → (D o : ℕ) (row : List ℕ) → D ≡ byte s 2 → o ≡ byIn (tablesOf s .shelf i)

@@ -2,6 +2,7 @@
 ghost use mathlib.Core.Path.{_≡_};
 ghost use mathlib.Core.Bool.{true, false};
 ghost use lib.ListN.{length};
+ghost use denote.Ref.{ptr};
 ghost use Rattle.rules.specs.Model;
 ghost use Rattle.rules.specs.Model.{byIn, noSlot};
 ghost use Rattle.rules.specs.Calls.{on};
@@ -11,7 +12,8 @@ ghost use Rattle.book.specs.Answers.{answerTo, partOf};
 ghost use Rattle.book.specs.Numbers.{tablesOf, numberOf};
 ghost use Rattle.book.specs.Layout.{bookSize};
 ghost use Rattle.refusals.specs.First.{slotsNumber};
-ghost use Rattle.asking.specs.Slots.{WayBetween, recordFor};
+ghost use Rattle.parts.specs.Slices.{place};
+ghost use Rattle.asking.specs.Slots.{WayBetween, partFrom, recordFor};
 use comparing::Way;
 use rules::Compared;
 use rules::Stamp;
@@ -75,6 +77,7 @@ pub fn compared(book: &[u8], first: usize, second: usize) -> Compared
 pub fn row_part(book: &[u8], slot: usize) -> &[u8]
     requires { ⌜ numberOf (now book) (Model.show slot) ≡ 0 ⌝ }
     ensures { λ r. ⌜ now r ≡ partOf (now (book .entry)) slot ⌝ }
+    ensures { λ r. ⌜ ptr r ≡ place (book .entry) (partFrom (now (book .entry)) slot) ⌝ }
 {
     let a = parts::spot(parts::SHELF + slot, parts::ROW);
     let e = a + parts::ROW_BYTES;

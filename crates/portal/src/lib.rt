@@ -3,6 +3,7 @@ ghost use mathlib.Core.Path.{_≡_};
 ghost use mathlib.Core.Bool.{true};
 ghost use Prim.Native.Nat.{_<_, _≤_};
 ghost use lib.ListN.{length};
+ghost use denote.Ref.{ptr};
 ghost use Rattle.tools.specs.Lists.{tab, Filled};
 ghost use Rattle.rules.specs.Setups.{permits};
 ghost use Rattle.rules.specs.Model;
@@ -16,6 +17,8 @@ ghost use Rattle.book.specs.Layout.{bookSize, records, shelfFrom, seats, headSi
 ghost use Rattle.book.specs.Codec.{encode};
 ghost use Rattle.book.specs.Answers.{answerTo, bookAfter, partOf, targetAfter};
 ghost use Rattle.refusals.specs.First.{usedNumber};
+ghost use Rattle.parts.specs.Slices.{place};
+ghost use Rattle.asking.specs.Slots.{partFrom};
 ghost use Rattle.portal.specs.Fresh.{cleared, Written, Marks, freeAfter};
 use rules::Compared;
 use rules::Kept;
@@ -311,6 +314,7 @@ pub fn compare(book: &[u8], first: usize, second: usize) -> Compared
 // Show hands back the sixteen row bytes of a slot as a part of the book itself; a refused show hands back an empty part.
 pub fn show(book: &[u8], slot: usize) -> &[u8]
     ensures { λ r. ⌜ now r ≡ partOf (now (book .entry)) slot ⌝ }
+    ensures { λ r. ⌜ ptr r ≡ place (book .entry) (partFrom (now (book .entry)) slot) ⌝ }
 {
     if refusals::show_number(book, slot) != rules::DONE {
         return &book[0..0];

@@ -4,11 +4,12 @@ use Prim.Native.Nat.{ℕ, _+_, _-_, _<_}
 use mathlib.Core.Path.{_≡_, ap, _∙_}
 use native.Mathlib.Omega.{arith}
 use lib.ListN.{length, take, drop}
+use Rattle.parts.specs.Slices.{place}
 use Rattle.book.specs.Layout.{bookSize, rowSize}
 use Rattle.book.proofs.Soundness.{sound-size}
 use Rattle.asking.proofs.Slots.{slot-place}
 use Rattle.refusals.proofs.Slots.{show-one}
-use Rattle.asking.proofs.Accepted.{show-part}
+use Rattle.asking.proofs.Accepted.{show-part, show-from}
 use borrow.Author.Needs.{needs}
 use Rattle.asking.proofs.row_part.Statement.{statement}
 use Rattle.asking.proofs.row_part.Tie as tie
@@ -35,9 +36,11 @@ returns : tie.Need-returns
 returns c =
     let x = c .before .before .before in
     let a = c .before .spot in
-    let e : a .result + rowSize - a .result ≡ rowSize = omega arith in
-    ap (λ (n : ℕ). take n (drop (a .result) (x .args .book .now))) e
-    ∙ rw (a .ensures) (show-part (x .args .book .now) (x .args .slot) (x .pre))
+    let e : a .result + rowSize - a .result ≡ rowSize = omega arith in (
+      ap (λ (n : ℕ). take n (drop (a .result) (x .args .book .now))) e
+          ∙ rw (a .ensures) (show-part (x .args .book .now) (x .args .slot) (x .pre)),
+      ap (place (x .args .book)) (a .ensures ∙ show-from (x .args .book .now) (x .args .slot) (x .pre)),
+    )
 
 pub row-part-spec : {M : Type 1} → statement M
 row-part-spec =

@@ -6,7 +6,9 @@ use Rattle.portal.proofs.show.Statement.{statement}
 use Rattle.portal.proofs.show.Tie as tie
 
 returns : tie.Need-returns
-returns c = let n = c .before .before .show-number in show-refused _ _ (n .result) (n .ensures) (c .before .if1 .taken)
+returns c =
+    let n = c .before .before .show-number in
+    show-refused (c .before .before .before .before .args .book) _ (n .result) (n .ensures) (c .before .if1 .taken)
 
 pub show-spec : {M : Type 1} → statement M
 show-spec =
