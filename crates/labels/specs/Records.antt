@@ -5,9 +5,8 @@
 --   readSays r       what the reading r says: its number and stamp
 --   rowBeside w l    the row bytes l beside w: blank where it is a refusal
 --   Readable X e     the stamp e is one that a record can tell under the setup X: in range, and zero where there is no desk
---   newestPart w a b the bytes of the record that w names: a, b, or none
---   newestOf X a b   what newest hands back of the bytes a and b
---   HandedBack w a b r   the slice r is the caller's own bytes that w names: the slice a itself, b itself, or an empty part of a
+--   newestOf X a b   which of the records a and b newest hands back
+--   HandedBack w a b r   the slice r is what w names of the slices a and b, the caller's own bytes: a, b, or an empty part of a
 use mathlib.Core.Path.{_≡_}
 use mathlib.Core.Bool.{true}
 use mathlib.Core.Option.{Option, none, some}
@@ -45,13 +44,8 @@ pub record Readable (X : Setup) (e : Label) : Type 0 where
   pub owner : e .owner < X .desks
   pub row : (j : ℕ) → pairReads X j (e .row j) ≡ true
 
-abbrev pub newestPart : Which → List ℕ → List ℕ → List ℕ
-newestPart First a b = a
-newestPart Second a b = b
-newestPart Neither a b = []
-
-abbrev pub newestOf : Setup → List ℕ → List ℕ → List ℕ
-newestOf X a b = newestPart (newestOff X (readStamp X a) (readStamp X b)) a b
+abbrev pub newestOf : Setup → List ℕ → List ℕ → Which
+newestOf X a b = newestOff X (readStamp X a) (readStamp X b)
 
 abbrev pub HandedBack : Which → Slice → Slice → Slice → Type 0
 HandedBack First a b r = r ≡ a

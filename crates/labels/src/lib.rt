@@ -4,13 +4,13 @@ ghost use Prim.Native.Nat.{_-_, _<_};
 ghost use lib.Dec.{ltb};
 ghost use lib.ListN.{length};
 ghost use Rattle.tools.specs.Tests.{pick};
-ghost use Rattle.rules.specs.Labels.{ownerIn, newestOff};
+ghost use Rattle.rules.specs.Labels.{ownerIn};
 ghost use Rattle.rules.specs.Replies.{rowBytes, rowOf, toldSays, comparedSays};
 ghost use Rattle.book.specs.Layout.{recordSize, seats};
 ghost use Rattle.book.specs.Answers.{beforeOf, compareOf};
 ghost use Rattle.book.specs.Stamps.{writeStamp, labelOf, pairReads, readStamp};
 ghost use Rattle.labels.specs.Limits.{lastOf, lastRow, Lasts, rowReads, headReads};
-ghost use Rattle.labels.specs.Records.{readAs, readSays, rowBeside, HandedBack};
+ghost use Rattle.labels.specs.Records.{readAs, readSays, rowBeside, newestOf, HandedBack};
 ghost use Rattle.labels.specs.Asked.{ownerRead, refusalIn, Both, WayRead, Asked};
 use comparing::Way;
 use rules::Compared;
@@ -266,8 +266,7 @@ pub fn compare(setup: Setup, first: &[u8], second: &[u8]) -> Compared
 
 // Newest: of two lent records the one that is after the other, the first if they are the same, else an empty part of the first.
 pub fn newest<'a>(setup: Setup, first: &'a [u8], second: &'a [u8]) -> &'a [u8]
-    ensures { λ r. ⌜ HandedBack (newestOff setup (readStamp setup (now (first .entry))) (readStamp setup (now (second .entry))))
-        (first .entry) (second .entry) r ⌝ }
+    ensures { λ r. ⌜ HandedBack (newestOf setup (now (first .entry)) (now (second .entry))) (first .entry) (second .entry) r ⌝ }
 {
     let says = compare(setup, first, second);
     let Compared::Is(relation) = says else {

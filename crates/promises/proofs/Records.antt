@@ -19,7 +19,6 @@ use Rattle.rules.specs.Model.{Row, Seat, Held, Tables, Label, Question, slotAsk
 use Rattle.rules.specs.Model.{Act, local, reset, keep, drop, discard, send, receive, ask, before, compare, write, slotOf}
 use Rattle.rules.specs.Numbers.{BadBook, number}
 use Rattle.rules.specs.Model.{Answer, refusal, byIn, rowIn, used, why, askTells, done, step, settle}
-use Rattle.rules.specs.Labels.{newestOff}
 use Rattle.book.specs.Fits.{PairFits, RowFits, SlotFits, Fits}
 use Rattle.rules.specs.Setups.{permits}
 use Rattle.rules.specs.Calls.{Book, Call, start, on, call}
@@ -217,11 +216,8 @@ module _ (s : List ℕ) (X : Setup) (started : answerTo s (start X) .number ≡ 
     -- Newest is the one that is after the other, the first if they are of one event, neither if they are concurrent.
     pub records-newest : InReach (setupAfter X cs) (logAfter X cs) x y → InReach (setupAfter X cs) (logAfter X cs) y x
         → NewestIs (readUnder X cs) (logAfter X cs) x y r q
-    records-newest l m = (
-      newestOff (readUnder X cs) (readStamp (readUnder X cs) r) (readStamp (readUnder X cs) q),
-      refl,
-      rw (reads r x a, reads q y c) (off-newest X fair cs x y (a .stamp) (c .stamp) (answered r x a) (answered q y c) l m),
-    )
+    records-newest l m =
+        rw (reads r x a, reads q y c) (off-newest X fair cs x y (a .stamp) (c .stamp) (answered r x a) (answered q y c) l m)
 
   -- two kept stamps, and the records that are written from them
   module _ (i j : ℕ) (e f : Held) (pe : decode bytes .tables .shelf i ≡ some e) (pf : decode bytes .tables .shelf j ≡ some f) where

@@ -12,14 +12,13 @@ use Prim.Native.Nat.{ℕ}
 use Rattle.rules.specs.declared.Setup.{Setup}
 use Rattle.rules.specs.Model.{Label, Act, slotOf}
 use Rattle.rules.specs.Calls.{Call, start, on}
-use Rattle.rules.specs.Labels.{Which}
 use Rattle.history.specs.History.{Log, begin, after, setupAfter}
 use Rattle.history.specs.Stamps.{ownerAt, stampIn, eventOf, Ongoing}
 use Rattle.book.specs.Codec.{decode}
 use Rattle.history.specs.Demand.{Newer}
 use Rattle.book.specs.Stamps.{writeStamp}
 use Rattle.book.specs.Answers.{answerTo, bookAfter}
-use Rattle.labels.specs.Records.{newestPart, newestOf}
+use Rattle.labels.specs.Records.{newestOf}
 use Rattle.promises.specs.Runs.{bytesAfter}
 
 abbrev pub stampFrom : List ℕ → Act → Option Label
@@ -40,4 +39,4 @@ abbrev pub readUnder : Setup → List Call → Setup
 readUnder X cs = setupAfter X cs
 
 abbrev pub NewestIs : Setup → Log → ℕ → ℕ → List ℕ → List ℕ → Type 0
-NewestIs X h x y r q = (w : Which) × (newestOf X r q ≡ newestPart w r q) × Newer h x y w
+NewestIs X h x y r q = Newer h x y (newestOf X r q)
