@@ -154,12 +154,12 @@ module _ (s : List ℕ) (j n : ℕ) (e : n ≡ numberOf s (reset j)) (z : n ≡ 
   unfolding done
   reset-stamps = seat-stamps s (reset j) (sym e ∙ z) j reset-at _ refl
 
-module _ (s : List ℕ) (j p : ℕ) (e : numberOf s (receive j p) ≡ 0) where
+module _ (s : List ℕ) (j p n : ℕ) (e : n ≡ numberOf s (receive j p)) (z : n ≡ 0) where
   receive-clear : (j < byte s 2) × (used (tablesOf s .mail p) ≡ true) × (own (tablesOf s) j .clock + 1 < byte s 4) × (p < 32)
-  receive-clear = no-receive (ringOf (setupOf s)) (setupOf s) (tablesOf s) j p (ready s (receive j p) e .1)
+  receive-clear = no-receive (ringOf (setupOf s)) (setupOf s) (tablesOf s) j p (ready s (receive j p) (sym e ∙ z) .1)
 
   pub receive-grows : Grows s j
-  receive-grows = let n = receive-clear in grows s j (ready s (receive j p) e .0) (n .0) (n .2)
+  receive-grows = let q = receive-clear in grows s j (ready s (receive j p) (sym e ∙ z) .0) (q .0) (q .2)
 
   pub receive-place : p < 32
   receive-place = receive-clear .3
@@ -169,7 +169,7 @@ module _ (s : List ℕ) (j p : ℕ) (e : numberOf s (receive j p) ≡ 0) where
   unfolding done
   receive-stamps x row b b′ ex er eb eb′ =
       let g = receive-grows .at in
-      event-stamps s (receive j p) e j (g .eight) (mergedRow s j p) (put (tablesOf s .mail) p none) (stamp j (mergedRow s j p)) refl
+      event-stamps s (receive j p) (sym e ∙ z) j (g .eight) (mergedRow s j p) (put (tablesOf s .mail) p none) (stamp j (mergedRow s j p)) refl
       (cleared s (mailFrom + p))
       (mail-put (setupOf s) (tablesOf s) s (decode-holds s (g .whole)) p receive-place none) row er
       (merged-eight s (ringOf (setupOf s)) j p (g .eight)) refl x b′ ex (eb′ ∙ ap (λ (y : List ℕ). post y j 1 0 row) eb)
