@@ -3,3 +3,4 @@ pub mod Records
 pub mod Limits
 pub mod Answered
 pub mod Once
+pub mod Handed
