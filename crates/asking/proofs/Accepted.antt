@@ -22,7 +22,7 @@ use Rattle.rules.specs.Replies.{rowBytes, rowOf, toldSays, comparedSays}
 use Rattle.book.specs.Layout.{rowSpot, shelfFrom, spot, setupOf, rowAt}
 use Rattle.book.specs.Codec.{readRow}
 use Rattle.book.specs.Stamps.{writeStamp}
-use Rattle.book.specs.Answers.{admits, answerTo, partIn, recordIn, partOf}
+use Rattle.book.specs.Answers.{admits, answerTo, partIn, recordIn, partOf, partFrom}
 use Rattle.book.specs.Numbers.{tablesOf, numberOf}
 use Rattle.book.proofs.Soundness.{sound-size}
 use Rattle.rules.proofs.RowBytes.{rows-alike, row-of-bytes}
@@ -35,7 +35,7 @@ use Rattle.comparing.specs.Ways.{WayOf}
 use Rattle.comparing.specs.Answers.{beforeBy, compareBy}
 use Rattle.comparing.proofs.Answers.{before-on, compare-on}
 use Rattle.refusals.proofs.Slots.{Two, show-one, write-one}
-use Rattle.asking.specs.Slots.{WayBetween, partFrom, recordFor}
+use Rattle.asking.specs.Slots.{WayBetween, recordFor}
 use Rattle.asking.proofs.Slots.{slot-place, slot-row}
 
 -- two used slots, of the desks j and l; X is the setup as it was read

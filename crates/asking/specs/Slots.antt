@@ -1,14 +1,12 @@
 -- Slots in the bytes of a book.
 -- Assumes nothing.
 --   WayBetween s i k w    w is the way from the stamp in slot i of the bytes s to that in slot k
---   partFrom s k          the byte of s at which the part that show of slot k hands back begins: its row's first; 0 where refused
 --   recordFor s k room    the stamp record that write of slot k fills in, where it has so many bytes of room
-use Prim.Native.Nat.{ℕ, _+_}
+use Prim.Native.Nat.{ℕ}
 use mathlib.Core.List.{List}
-use Rattle.tools.specs.Reasons.{ifDone}
-use Rattle.rules.specs.Model.{show, write, byIn, rowIn, gapFrom}
+use Rattle.rules.specs.Model.{write, byIn, rowIn, gapFrom}
 use Rattle.rules.specs.Calls.{on, ringOf}
-use Rattle.book.specs.Layout.{setupOf, shelfFrom, rowSpot, spot}
+use Rattle.book.specs.Layout.{setupOf}
 use Rattle.book.specs.Answers.{answerTo, recordIn}
 use Rattle.book.specs.Numbers.{tablesOf}
 use Rattle.comparing.specs.declared.Way.{Way}
@@ -18,9 +16,6 @@ abbrev pub WayBetween : List ℕ → ℕ → ℕ → Way → Type 0
 WayBetween s i k w =
     WayOf (setupOf s) (gapFrom (ringOf (setupOf s)) (setupOf s) (tablesOf s) i k) (byIn (tablesOf s .shelf i))
     (rowIn (tablesOf s .shelf i)) (rowIn (tablesOf s .shelf k)) w
-
-abbrev pub partFrom : List ℕ → ℕ → ℕ
-partFrom s k = ifDone (answerTo s (on (show k)) .number) (spot (shelfFrom + k) rowSpot) 0
 
 abbrev pub recordFor : List ℕ → ℕ → ℕ → List ℕ
 recordFor s k room = recordIn (setupOf s .desks) (answerTo s (on (write k room)) .value)

@@ -6,10 +6,10 @@
 --   bookAfter s c  the bytes that the call c leaves: the same ones where it is refused
 --   partIn v       the sixteen bytes of the row in a value, which a show hands back; none where it has none
 --   recordIn D v   the record of the stamp in a value; none where it has none
---   partOf s k     what show of slot k hands back of the bytes s
+--   partOf s k     what show of slot k hands back of the bytes s; partFrom s k, the byte of s where it begins, 0 where it is refused
 --   targetAfter s k t   what write of slot k makes of the target t
 --   beforeOf X a b, compareOf X a b   the answers to before and compare off the book, of the records a and b under the setup X
-use Prim.Native.Nat.{ℕ}
+use Prim.Native.Nat.{ℕ, _+_}
 use mathlib.Core.Bool.{Bool}
 use mathlib.Core.List.{List}
 use lib.Dec.{eqb}
@@ -23,7 +23,7 @@ use Rattle.rules.specs.Numbers.{BadBook, number}
 use Rattle.rules.specs.Calls.{Call, start, on, Turn, ringOf, call}
 use Rattle.rules.specs.Labels.{beforeOff, compareOff}
 use Rattle.rules.specs.Replies.{rowBytes}
-use Rattle.book.specs.Layout.{bookSize}
+use Rattle.book.specs.Layout.{bookSize, shelfFrom, rowSpot, spot}
 use Rattle.book.specs.Sound.{sound}
 use Rattle.book.specs.Codec.{decode, encode}
 use Rattle.book.specs.Stamps.{writeStamp, readStamp, filled}
@@ -49,6 +49,9 @@ recordIn D v = listed (writeStamp D) (v .stamp)
 
 abbrev pub partOf : List ℕ → ℕ → List ℕ
 partOf s k = partIn (answerTo s (on (show k)) .value)
+
+abbrev pub partFrom : List ℕ → ℕ → ℕ
+partFrom s k = ifDone (answerTo s (on (show k)) .number) (spot (shelfFrom + k) rowSpot) 0
 
 abbrev pub targetAfter : List ℕ → ℕ → List ℕ → List ℕ
 targetAfter s k t = filled t (recordIn (decode s .setup .desks) (answerTo s (on (write k (length t))) .value))

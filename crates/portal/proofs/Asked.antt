@@ -8,13 +8,12 @@ use denote.Ref.{now}
 use Rattle.tools.specs.Reasons.{ifDone}
 use Rattle.rules.specs.Model.{show, write, Answer}
 use Rattle.book.specs.Stamps.{filled}
-use Rattle.book.specs.Answers.{partIn, recordIn, partOf, targetAfter}
+use Rattle.book.specs.Answers.{partIn, recordIn, partOf, partFrom, targetAfter}
 use Rattle.book.specs.Numbers.{numberOf}
 use Rattle.book.specs.Codec.{decode}
 use Rattle.book.specs.Layout.{shelfFrom, rowSpot, spot}
 use Rattle.book.proofs.Numbers.{refused-answer}
 use Rattle.parts.specs.Slices.{Slice, place}
-use Rattle.asking.specs.Slots.{partFrom}
 
 -- a refused show: an empty part of the book, at its front; and a refused write
 pub show-refused : (s : Slice) (i n : ℕ) → n ≡ numberOf (now s) (show i) → (n ≡ 0 → ⊥)
