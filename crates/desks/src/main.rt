@@ -1,80 +1,233 @@
 // Answers the lines of standard input on standard output, from a book of zeros on.
+ghost use mathlib.Core.Path.{_≡_};
 ghost use Prim.Native.Nat.{_≤_};
-ghost use Rattle.text.specs.Stream.{most};
+ghost use lib.ListN.{length, take};
+ghost use Rattle.io.specs.Counts.{clamped};
+ghost use Rattle.text.specs.Put.{Wrote};
+ghost use Rattle.text.specs.Stream.{most, held, lastBook};
+ghost use Rattle.answering.specs.Answering.{answering};
+ghost use Rattle.listing.specs.Feeding.{Feeds};
+ghost use Rattle.desks.specs.declared.Went.the-variants.{On};
+ghost use Rattle.desks.specs.Ends.{failureWent, callWent, readWent, writeWent, Told, Follows, endBook, Ends, wordOf};
 use libc::STDIN_FILENO;
 use libc::STDOUT_FILENO;
 use text::Pending;
 
-// What a turn leaves: the line that has begun, and whether to go on.
-struct Turn {
-    pending: Pending,
-    goes_on: bool,
+// A proved loop has to end, and nothing says that the input does, or that the output is ever ready. So a loop over either counts its
+// turns down, from a number that no run uses up.
+const TURNS: u64 = u64::MAX;
+
+// What became of the run: it goes on; the input has ended; nobody reads the output any more; or an end has failed.
+enum Went {
+    On,
+    Ended,
+    Gone,
+    Unread,
+    Unwritten,
 }
 
-// The stream has ended, or cannot be read: a line that has begun is answered.
-fn last_turn(book: &mut [u8], p: Pending)
-    requires { ⌜ p .count ≤ most ⌝ }
+// How many bytes of a text are not written, and what became of the run.
+struct Put {
+    left: usize,
+    went: Went,
+}
+
+// What a piece leaves: the line that has begun, how many bytes of the piece are taken in, how many bytes of what they print are not
+// written, and what became of the run.
+struct Turn {
+    pending: Pending,
+    used: usize,
+    left: usize,
+    went: Went,
+}
+
+// Waits a little, for an end that is not ready.
+fn pause() {
+    libc::sched_yield();
+}
+
+// What becomes of the run where a call fails for the system's reason.
+fn failure_went(error: i32, bad: Went) -> Went
+    ensures { λ r. ⌜ r ≡ failureWent error bad ⌝ }
 {
-    let mut out = [0u8; 76];
-    let n = listing::finish(book, &mut out, p);
-    io::write_all(STDOUT_FILENO, &out[..n]);
+    if error == libc::EAGAIN {
+        pause();
+        return Went::On;
+    }
+    if error == libc::EINTR {
+        return Went::On;
+    }
+    if error == libc::EPIPE {
+        return Went::Gone;
+    }
+    bad
+}
+
+// The same of a call that moves bytes.
+fn call_went(got: isize, error: i32, none: Went, bad: Went) -> Went
+    ensures { λ r. ⌜ r ≡ callWent got error none bad ⌝ }
+{
+    if got < 0 {
+        return failure_went(error, bad);
+    }
+    if got == 0 {
+        return none;
+    }
+    Went::On
+}
+
+// The same of a write, which moves a byte or fails.
+fn write_went(got: isize, error: i32) -> Went
+    ensures { λ r. ⌜ r ≡ writeWent got error ⌝ }
+{
+    call_went(got, error, Went::Unwritten, Went::Unwritten)
+}
+
+// A text is written, and waited for as long as it takes.
+fn write_out(out: &[u8]) -> Put
+    ensures { λ r. ⌜ Told (r .went) (r .left) ⌝ }
+{
+    let mut done: usize = 0;
+    let mut turns = TURNS;
+    while done < out.len() && turns > 0 {
+        let got = libc::write(STDOUT_FILENO, &out[done..]);
+        let w = write_went(got, os::errno());
+        let Went::On = w else {
+            return Put {
+                left: out.len() - done,
+                went: w,
+            };
+        };
+        done += io::count(got, &out[done..]);
+        turns -= 1;
+    }
+    if done < out.len() {
+        return Put {
+            left: out.len() - done,
+            went: Went::Unwritten,
+        };
+    }
+    Put {
+        left: 0,
+        went: Went::On,
+    }
 }
 
 // A piece is taken in; what it prints is written as often as the buffer is full, until that fails.
 fn answer_piece(book: &mut [u8], p: Pending, piece: &[u8]) -> Turn
     requires { ⌜ p .count ≤ most ⌝ }
-    ensures { λ r. ⌜ r .pending .count ≤ most ⌝ }
+    ensures { λ r. ⌜ Feeds (held (now (book .entry)) p) (now (piece .entry)) (r .used) (now (book .exit)) (r .pending) ⌝ }
+    ensures { λ r. ⌜ Told (r .went) (r .left) × (r .went ≡ On → r .used ≡ length (now (piece .entry))) ⌝ }
 {
     let mut out = io::buffer();
-    let mut t = Turn {
-        pending: p,
-        goes_on: true,
-    };
+    let mut q = p;
     let mut at: usize = 0;
-    while at < piece.len() && t.goes_on {
-        let q = t.pending;
+    while at < piece.len() {
         let fed = listing::feed(book, &mut out, q, &piece[at..]);
         let end = fed.end;
         let r = fed.pending;
         at += fed.used;
-        t = Turn {
-            pending: r,
-            goes_on: io::write_all(STDOUT_FILENO, &out[..end]),
+        q = r;
+        let put = write_out(&out[..end]);
+        let w = put.went;
+        let Went::On = w else {
+            return Turn {
+                pending: q,
+                used: at,
+                left: put.left,
+                went: w,
+            };
         };
     }
-    t
+    Turn {
+        pending: q,
+        used: at,
+        left: 0,
+        went: Went::On,
+    }
 }
 
-// Reads once, and answers the lines that end there.
-fn take_turn(book: &mut [u8], p: Pending) -> Turn
+// What a read has put into a space is taken in. A line that has begun waits for its end, also where the read failed.
+fn take_turn(book: &mut [u8], p: Pending, space: &[u8], got: isize, error: i32) -> Turn
     requires { ⌜ p .count ≤ most ⌝ }
-    ensures { λ r. ⌜ r .pending .count ≤ most ⌝ }
+    ensures { λ r. ⌜ Feeds (held (now (book .entry)) p) (take (clamped got (length (now (space .entry)))) (now (space .entry)))
+        (r .used) (now (book .exit)) (r .pending) ⌝ }
+    ensures { λ r. ⌜ Follows (readWent got error) (r .went) ⌝ }
+    ensures { λ r. ⌜ (r .went ≡ On → (r .left ≡ 0) × (r .used ≡ clamped got (length (now (space .entry))))) ⌝ }
 {
-    let mut piece = io::buffer();
-    let got = libc::read(STDIN_FILENO, &mut piece);
-    if got < 1 {
-        last_turn(book, p);
+    let w = call_went(got, error, Went::Ended, Went::Unread);
+    let Went::On = w else {
         return Turn {
             pending: p,
-            goes_on: false,
+            used: 0,
+            left: 0,
+            went: w,
         };
-    }
-    let n = io::count(got, &piece);
-    answer_piece(book, p, &piece[..n])
+    };
+    let n = io::count(got, space);
+    answer_piece(book, p, &space[..n])
 }
 
-// A proved loop has to end, and nothing says that the input does. So the loop counts its turns down,
-// from a number that no run uses up.
+// The input has ended: a line that has begun is answered.
+fn last_turn(book: &mut [u8], p: Pending) -> Put
+    requires { ⌜ p .count ≤ most ⌝ }
+    ensures { λ r. ⌜ (now (book .exit) ≡ lastBook answering (held (now (book .entry)) p)) × Told (r .went) (r .left) ⌝ }
+{
+    let mut out = [0u8; listing::ROOM];
+    let n = listing::finish(book, &mut out, p);
+    write_out(&out[..n])
+}
+
+// How the run ends: where the input has ended, after its last line.
+fn ending(book: &mut [u8], p: Pending, w: Went) -> Went
+    requires { ⌜ p .count ≤ most ⌝ }
+    ensures { λ r. ⌜ (now (book .exit) ≡ endBook w (held (now (book .entry)) p)) × Ends w r ⌝ }
+{
+    let Went::Ended = w else {
+        return w;
+    };
+    let put = last_turn(book, p);
+    put.went
+}
+
+// What the program says at its end.
+fn word(out: &mut [u8], w: Went) -> usize
+    requires { ⌜ 22 ≤ length (now out) ⌝ }
+    ensures { λ r. ⌜ Wrote (now (out .entry)) 0 (wordOf w) (now (out .exit)) r ⌝ }
+{
+    match w {
+        Went::On => 0,
+        Went::Ended => 0,
+        Went::Gone => 0,
+        Went::Unread => text::put_text(out, 0, b"desks: standard input"),
+        Went::Unwritten => text::put_text(out, 0, b"desks: standard output"),
+    }
+}
+
+// Turn after turn, until the run does not go on. Where the input has ended, the last line is answered.
+fn run(book: &mut [u8]) -> Went {
+    let mut space = io::buffer();
+    let mut p = text::fresh();
+    let mut turns = TURNS;
+    while turns > 0 {
+        let got = libc::read(STDIN_FILENO, &mut space);
+        let t = take_turn(book, p, &space, got, os::errno());
+        p = t.pending;
+        let w = t.went;
+        let Went::On = w else {
+            return ending(book, p, w);
+        };
+        turns -= 1;
+    }
+    Went::Unread
+}
+
 fn main() {
     let mut book = [0u8; parts::BOOK_BYTES];
-    let mut t = Turn {
-        pending: text::fresh(),
-        goes_on: true,
-    };
-    let mut turns = u64::MAX;
-    while turns > 0 && t.goes_on {
-        let p = t.pending;
-        t = take_turn(&mut book, p);
-        turns -= 1;
+    let w = run(&mut book);
+    let mut out = [0u8; 22];
+    let n = word(&mut out, w);
+    if n > 0 {
+        os::fail(&out[..n]);
     }
 }

@@ -1,7 +1,11 @@
 -- `desks::answer_piece` meets its contract. The measure is what is left of the piece. Assumes nothing.
-use Rattle.text.specs.Stream.{most}
+use Rattle.text.specs.Stream.{held}
 use Rattle.text.proofs.Writing.{wrote-length}
-use lib.ListN.{length, length-take, length-drop}
+use Rattle.listing.specs.Feeding.{Feeds}
+use Rattle.listing.proofs.Listings.{feeds-none, feeds-on}
+use Rattle.desks.proofs.Reasons.{not-on}
+use lib.ListN.{length, take, drop, length-take, length-drop}
+use lib.Seq.{take-all}
 use borrow.Author.Needs.{needs}
 use native.Mathlib.Omega.{arith}
 use mathlib.Core.Path.{_≡_, refl, sym, _∙_}
@@ -10,75 +14,89 @@ use Rattle.desks.proofs.answer_piece.Statement.{statement}
 use Rattle.desks.proofs.answer_piece.Tie as tie
 
 abbrev Inv-loop : tie.InvT-loop
-Inv-loop book₀ piece out₀ t₀ at₀ book out t at =
-    (length book ≡ length book₀) × (4096 ≡ length out) × (t .pending .count ≤ most) × (at ≤ length piece)
+Inv-loop book₀ piece out₀ q₀ at₀ book out q at =
+    (length book ≡ length book₀) × (4096 ≡ length out) × Feeds (held book₀ q₀) piece at book q
 
 abbrev μ-loop : tie.MeasureT-loop
-μ-loop book₀ piece out₀ t₀ at₀ book out t at = length piece - at
+μ-loop book₀ piece out₀ q₀ at₀ book out q at = length piece - at
 
 -- the places behind a feed
 abbrev fed : tie.After-struct-known Inv-loop μ-loop → tie.After-feed Inv-loop μ-loop
 fed c = c .before .before .before .before .before
 
-abbrev turn : tie.After-struct-known Inv-loop μ-loop → tie.In-loop Inv-loop μ-loop
-turn c = fed c .before .before .before .before .before .before
+abbrev turn : tie.After-struct-known Inv-loop μ-loop → tie.At-loop Inv-loop μ-loop
+turn c = fed c .before .before .before .before .before
 
 abbrev entry : tie.After-struct-known Inv-loop μ-loop → tie.Start Inv-loop μ-loop
-entry c = turn c .before .before .before .before .before
+entry c = turn c .before .before .before .before
 
--- some bytes are taken in, and they lie within the piece
+-- the rest of the piece is what lies behind the bytes that are taken in
+rest
+    : (c : tie.After-struct-known Inv-loop μ-loop)
+    → take (length (entry c .args .piece .now) - turn c .loop .at) (drop (turn c .loop .at) (entry c .args .piece .now))
+    ≡ drop (turn c .loop .at) (entry c .args .piece .now)
+rest c =
+    take-all
+    (length (entry c .args .piece .now) - turn c .loop .at)
+    (drop (turn c .loop .at) (entry c .args .piece .now))
+    (simp length-drop (omega arith))
+
+-- some bytes more are taken in
 taken
     : (c : tie.After-struct-known Inv-loop μ-loop)
     → (0 < fed c .feed .result .used)
-    × (turn c .before .loop .at + fed c .feed .result .used ≤ length (entry c .args .piece .now))
+    × Feeds
+    (held (entry c .args .book .now) (entry c .args .p))
+    (entry c .args .piece .now)
+    (turn c .loop .at + fed c .feed .result .used)
+    (fed c .feed .last .0)
+    (fed c .feed .result .pending)
 taken c =
     let f = fed c .feed .ensures .1 in
-    let l : turn c .before .loop .at < length (entry c .args .piece .now) = omega arith in (
+    let l : turn c .loop .at < length (entry c .args .piece .now) = omega arith in (
       f .1 (simp (length-take, length-drop) (omega arith)),
-      omega (arith, simp (length-take, length-drop) at (f .0 .within)),
+      feeds-on _ _ _ _ _ (turn c .loop .inv .2) _ _ _ (rw (rest c) at (f .0)),
     )
 
-buffer-requires : tie.Need-buffer-requires Inv-loop μ-loop
-buffer-requires c κs = tt
-
 loop-holds : tie.Need-loop-holds Inv-loop μ-loop
-loop-holds c = (refl, c .buffer .ensures, omega arith, omega arith)
+loop-holds c =
+    (refl, c .buffer .ensures, feeds-none _ _ _ (omega arith))
 
 feed-requires : tie.Need-feed-requires Inv-loop μ-loop
-feed-requires c κs = (c .before .before .before .before .before .before .loop .inv .2, omega arith)
+feed-requires c κs = (c .before .before .before .before .loop .inv .2 .few, omega arith)
 
 add-at : tie.Need-add-at Inv-loop μ-loop
-add-at c =
-    omega (arith, entry c .good, taken c)
+add-at c = omega (arith, entry c .good, taken c .1 .within)
 
-slice-aggregate-write-all : tie.Need-slice-aggregate-write-all Inv-loop μ-loop
-slice-aggregate-write-all c = simp length-take (omega arith)
+slice-aggregate-write-out : tie.Need-slice-aggregate-write-out Inv-loop μ-loop
+slice-aggregate-write-out c = simp length-take (omega arith)
 
 loop-less : tie.Need-loop-less Inv-loop μ-loop
-loop-less c = omega (arith, taken (c .before .before))
+loop-less c = let k = c .before .before .before .before in omega (arith, taken k .0, taken k .1 .within)
 
 loop-again : tie.Need-loop-again Inv-loop μ-loop
 loop-again c =
-    let f = c .before .before .before .before .before .before .before .feed in
-    let h = c .before .before .before .before .before .before .before .before .before .before .before .before .before .before .loop in
-    (f .kept .0 ∙ h .inv .0, h .inv .1 ∙ sym (wrote-length (f .ensures .0)), f .ensures .1 .0 .few, taken (c .before .before) .1)
+    let k = c .before .before .before .before in
+    let h = turn k .loop in
+    (fed k .feed .kept .0 ∙ h .inv .0, h .inv .1 ∙ sym (wrote-length (fed k .feed .ensures .0)), taken k .1)
 
 same-length : tie.Need-same-length Inv-loop μ-loop
-same-length c = c .before .before .loop .inv .0
+same-length c = let k = c .before .before .before in fed k .feed .kept .0 ∙ turn k .loop .inv .0
 
 returns : tie.Need-returns Inv-loop μ-loop
-returns c = c .before .before .loop .inv .2
+returns c =
+    (taken (c .before .before .before) .1, (c .before .write-out .ensures, λ e. absurd (not-on _ (c .match .keys2) e)))
 
 same-length-2 : tie.Need-same-length-2 Inv-loop μ-loop
 same-length-2 c = c .before .loop .inv .0
 
 returns-2 : tie.Need-returns-2 Inv-loop μ-loop
-returns-2 c = c .before .loop .inv .2
+returns-2 c = (c .before .loop .inv .2, (refl, λ _. omega (arith, c .before .loop .inv .2 .within)))
 
 pub answer-piece-spec : {M : Type 1} → statement M
 answer-piece-spec =
     tie.close
     (tie.spec
-    Inv-loop μ-loop buffer-requires loop-holds (λ c. search needs) (λ c. search needs) (λ c. search needs) (λ c. search needs)
-    feed-requires add-at (λ c. search needs) slice-aggregate-write-all (λ c κs. search needs) loop-less loop-again same-length returns
-    same-length-2 returns-2)
+    Inv-loop μ-loop (λ c κs. tt) loop-holds (λ c. search needs) (λ c. search needs) (λ c. search needs) (λ c. search needs)
+    feed-requires add-at (λ c. search needs) slice-aggregate-write-out (λ c κs. search needs) (λ c. search needs) loop-less loop-again
+    same-length returns same-length-2 returns-2)

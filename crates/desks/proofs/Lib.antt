@@ -1,0 +1,2 @@
+-- Laws of the program at its ends.
+pub mod Reasons

@@ -1,0 +1,17 @@
+-- `desks::ending` meets its contract. Assumes nothing.
+use Rattle.text.specs.Stream.{held}
+use Rattle.desks.proofs.Reasons.{ends}
+use borrow.Author.Needs.{needs}
+use Rattle.desks.proofs.ending.Statement.{statement}
+use Rattle.desks.proofs.ending.Tie as tie
+
+returns : tie.Need-returns
+returns c = let a = c .before .before .args in ends (a .w) (c .match .keys2) (held (a .book .now) (a .p))
+
+returns-2 : tie.Need-returns-2
+returns-2 c =
+    let k = c .before .before in
+    rw (k .before .before .enum-told .given .1) (k .last-turn .ensures .0, tt)
+
+pub ending-spec : {M : Type 1} → statement M
+ending-spec = tie.close (tie.spec (λ c. search needs) returns (λ c κs. search needs) (λ c. search needs) returns-2)

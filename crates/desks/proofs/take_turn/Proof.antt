@@ -1,0 +1,58 @@
+-- `desks::take_turn` meets its contract. Assumes nothing.
+use Rattle.io.specs.Counts.{clamped}
+use Rattle.listing.proofs.Listings.{feeds-none}
+use Rattle.desks.specs.declared.Went.{Went}
+use Rattle.desks.specs.Ends.{readWent, Told, Follows}
+use Rattle.desks.proofs.Reasons.{not-on, follows}
+use lib.ListN.{length}
+use mir.Syntax.{w32, w64}
+use mir.ValLaws.{toZ-ofZ}
+use borrow.Author.Needs.{needs}
+use native.Mathlib.Omega.{arith}
+use mathlib.Core.Path.{_≡_, sym, subst, _∙_}
+use Rattle.desks.proofs.take_turn.Statement.{statement}
+use Rattle.desks.proofs.take_turn.Tie as tie
+
+abbrev entry : tie.After-call-went → tie.Start
+entry c = c .before .before .before
+
+abbrev called : tie.After-count → tie.After-call-went
+called c = c .before .before .before
+
+-- what the read made of the run
+read : (c : tie.After-call-went) → c .call-went .result ≡ readWent (entry c .args .got) (entry c .args .error)
+unfolding readWent
+read c = rw (toZ-ofZ w64 _ (entry c .fits .got), toZ-ofZ w32 _ (entry c .fits .error)) at (c .call-went .ensures)
+
+-- how many bytes it moved
+counted
+    : (c : tie.After-count)
+    → c .count .result ≡ clamped (entry (called c) .args .got) (length (entry (called c) .args .space .now))
+counted c = rw (toZ-ofZ w64 _ (entry (called c) .fits .got)) at (c .count .ensures .1)
+
+returns : tie.Need-returns
+returns c = (
+  feeds-none _ _ _ (entry (c .before) .pre),
+  (subst (λ (v : Went). Follows v (c .before .call-went .result)) (read (c .before)) (follows (c .before .call-went .result)), λ e. absurd (not-on _ (c .match .keys2) e)),
+)
+
+returns-2 : tie.Need-returns-2
+returns-2 c =
+    let k = c .before .before in
+    let n = k .before .before .before in
+    let went = n .before .enum-told .given .1 in
+    let told = k .answer-piece .ensures in
+    let r = k .answer-piece .result in (
+      rw (counted n) at (told .0),
+      (
+        subst (λ (v : Went). Follows v (r .went)) (sym went ∙ read (called n)) tt,
+        λ e. (subst (λ (v : Went). Told v (r .left)) e (told .1 .0), told .1 .1 e ∙ sym (n .count .ensures .0 .1) ∙ counted n),
+      ),
+    )
+
+pub take-turn-spec : {M : Type 1} → statement M
+take-turn-spec =
+    tie.close
+    (tie.spec
+    (λ c κs. search needs) (λ c. search needs) returns (λ c κs. search needs) (λ c. search needs) (λ c κs. search needs)
+    (λ c. search needs) returns-2)

@@ -1,0 +1,2 @@
+-- How the program meets its ends.
+pub mod Ends
