@@ -91,11 +91,11 @@ fn write_out(out: &[u8]) -> Put
     let mut turns = TURNS;
     while done < out.len() && turns > 0 {
         let got = libc::write(STDOUT_FILENO, &out[done..]);
-        let w = write_went(got, os::errno());
-        let Went::On = w else {
+        let tried = write_went(got, os::errno());
+        let Went::On = tried else {
             return Put {
                 left: out.len() - done,
-                went: w,
+                went: tried,
             };
         };
         done += io::count(got, &out[done..]);
@@ -129,13 +129,13 @@ fn answer_piece(book: &mut [u8], p: Pending, piece: &[u8]) -> Turn
         at += fed.used;
         q = r;
         let put = write_out(&out[..end]);
-        let w = put.went;
-        let Went::On = w else {
+        let written = put.went;
+        let Went::On = written else {
             return Turn {
                 pending: q,
                 used: at,
                 left: put.left,
-                went: w,
+                went: written,
             };
         };
     }
@@ -155,13 +155,13 @@ fn take_turn(book: &mut [u8], p: Pending, space: &[u8], got: isize, error: i32) 
     ensures { λ r. ⌜ Follows (readWent got error) (r .went) ⌝ }
     ensures { λ r. ⌜ (r .went ≡ On → (r .left ≡ 0) × (r .used ≡ clamped got (length (now (space .entry))))) ⌝ }
 {
-    let w = call_went(got, error, Went::Ended, Went::Unread);
-    let Went::On = w else {
+    let read = call_went(got, error, Went::Ended, Went::Unread);
+    let Went::On = read else {
         return Turn {
             pending: p,
             used: 0,
             left: 0,
-            went: w,
+            went: read,
         };
     };
     let n = io::count(got, space);
