@@ -1,6 +1,7 @@
 -- What the listing prints is one function of the bytes of its input.
 -- Assumes nothing.
 --   any-pieces   however the input is cut into pieces, the listing prints the same
+--   feeds-one    what a piece leaves goes by how many of its bytes are taken in
 --   feeds-none   no byte of a piece is taken in
 --   feeds-on     a piece is taken in up to a place, and then from there on
 use Prim.Native.Nat.{ℕ, _+_, _≤_}
@@ -18,6 +19,15 @@ use Rattle.listing.specs.Feeding.{Feeds}
 
 pub any-pieces : (b : List ℕ) (ps : List (List ℕ)) → runs answering (start b) ps ≡ printed answering b (flatten ps)
 any-pieces b ps = any-cut answering blind b ps
+
+pub feeds-one
+    : (s : State) (xs : List ℕ) (n : ℕ) (b b′ : List ℕ) (p p′ : Pending)
+    → Feeds s xs n b p
+    → Feeds s xs n b′ p′
+    → (b ≡ b′) × (lineOf p ≡ lineOf p′)
+feeds-one s xs n b b′ p p′ f g =
+    let e : held b p ≡ held b′ p′ = f .left ∙ sym (g .left) in
+    (ap (λ (u : State). u .book) e, ap (λ (u : State). u .line) e)
 
 pub feeds-none : (b : List ℕ) (p : Pending) (xs : List ℕ) → p .count ≤ most → Feeds (held b p) xs 0 b p
 unfolding after
