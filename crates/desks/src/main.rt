@@ -41,7 +41,7 @@ struct Turn {
     went: Went,
 }
 
-// Waits a little, for an end that is not ready.
+// Lets other programs run while an end is not ready. A sleep would lend a struct, which the proofs do not cover.
 fn pause() {
     libc::sched_yield();
 }
