@@ -8,7 +8,7 @@ use Prim.Native.Nat.{ℕ, _+_, _≤_}
 use mathlib.Core.Path.{_≡_, sym, ap, _∙_}
 use mathlib.Core.List.{List, flatten}
 use native.Mathlib.Omega.{arith}
-use lib.ListN.{length, take, drop, length-take, length-drop}
+use lib.ListN.{take, drop, length-take, length-drop}
 use lib.Seq.{take-add, take-all}
 use Rattle.text.specs.declared.Pending.{Pending}
 use Rattle.text.specs.Stream.{State, start, printed, runs, most, cut, after, held, lineOf}

@@ -9,7 +9,7 @@ use lib.Seq.{take-all}
 use borrow.Author.Needs.{needs}
 use native.Mathlib.Omega.{arith}
 use mathlib.Core.Path.{_≡_, refl, sym, _∙_}
-use Prim.Native.Nat.{_+_, _-_, _<_, _≤_}
+use Prim.Native.Nat.{_+_, _-_, _<_}
 use Rattle.desks.proofs.answer_piece.Statement.{statement}
 use Rattle.desks.proofs.answer_piece.Tie as tie
 

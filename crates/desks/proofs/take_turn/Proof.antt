@@ -8,7 +8,6 @@ use lib.ListN.{length}
 use mir.Syntax.{w32, w64}
 use mir.ValLaws.{toZ-ofZ}
 use borrow.Author.Needs.{needs}
-use native.Mathlib.Omega.{arith}
 use mathlib.Core.Path.{_≡_, sym, subst, _∙_}
 use Rattle.desks.proofs.take_turn.Statement.{statement}
 use Rattle.desks.proofs.take_turn.Tie as tie
