@@ -18,7 +18,7 @@
 --   listing           the example of the rules
 --   told-by p         desk 0 resets and tells desk 1 of it by the place p
 --   told-lines p v t  the lines of that: v the phase that desk 0 comes to, t the clock of desk 1
---   errors            a run for each error that the desks would make
+--   errors            a run for each error that the desks would make; that of a received mail's place is case 12
 --   upTo n            the numbers below n
 --   room              runs on places and slots: full ones, freed ones, and a stamp written or kept too long
 --   all               all of these
