@@ -10,7 +10,7 @@
 --   X, kept          the setup of the cases, and a record that reads under it, its numbers as large as they may be
 --   book-bytes, head-read     the bytes of the book; the setup that the header tells
 --   label-bytes, target-bytes the bytes of the stamp record; a target of 22 bytes that it is written into
---   lengths-read, bytes-read  the record reads, and not with a byte less or more, nor with one byte changed
+--   lengths-read, bytes-read  the record reads, and not with a byte less or more, nor with one of thirteen changes of a byte
 --   record-numbers            BadStamp, of such a record
 --   length-1455, length-1456, length-1457   BadBook, and not, by the length of a book
 use Prim.Native.Nat.{ℕ, zero, suc, _+_, _*_}

@@ -1,5 +1,6 @@
 -- DEMAND 2 off the book, and of start. Off the book d is r if r <= n-1, else r-P if P-r <= m-1, else there is none; newest is the
--- one that is after the other, the first if they are the same. An accepted start leaves a fresh book.
+-- one that is after the other, the first if they are the same, neither if they are concurrent or crossed. An accepted start leaves
+-- a fresh book and answers no more.
 -- Assumes nothing.
 use mathlib.Core.Path.{_≡_, ap}
 use mathlib.Core.Bool.{true}
@@ -8,12 +9,11 @@ use Prim.Native.Nat.{ℕ, _-_, _≤_, _<_}
 use borrow.Author.Tests.{lt-ltb, le-ltb}
 use Rattle.ring.specs.Phases.{Phases, lagOf}
 use Rattle.rules.specs.declared.Setup.{Setup}
-use Rattle.rules.specs.declared.Relation.the-variants.{Before, After, Same}
+use Rattle.rules.specs.declared.Relation.the-variants.{Before, After, Same, Concurrent, Crossed}
 use Rattle.rules.specs.Setups.{permits}
-use Rattle.rules.specs.Model.{Row, relates}
+use Rattle.rules.specs.Model.{Row, Label, nothing, relates, accepted}
 use Rattle.rules.specs.Calls.{Book, start, freshBook, call}
-use Rattle.rules.specs.Model.{Label}
-use Rattle.rules.specs.Labels.{gapOff, compareOff, First, Second, newestBy, newestOff}
+use Rattle.rules.specs.Labels.{gapOff, compareOff, First, Second, Neither, newestBy, newestOff}
 
 module _ (X : Setup) (j : ℕ) (e f : Row) where
   -- the phase in f minus the phase in e, on the ring
@@ -39,6 +39,13 @@ module _ (X : Setup) (e f : Option Label) where
   pub newest-before : compareOff X e f .value ≡ relates Before → newestOff X e f ≡ Second
   newest-before q = ap newestBy q
 
-pub start-leaves : (Z : Setup → Phases) (b : Book) (X : Setup) → permits X ≡ true → call Z b (start X) .book ≡ freshBook X
+  pub newest-concurrent : compareOff X e f .value ≡ relates Concurrent → newestOff X e f ≡ Neither
+  newest-concurrent q = ap newestBy q
+
+  pub newest-crossed : compareOff X e f .value ≡ relates Crossed → newestOff X e f ≡ Neither
+  newest-crossed q = ap newestBy q
+
+pub start-leaves : (Z : Setup → Phases) (b : Book) (X : Setup) → permits X ≡ true
+    → call Z b (start X) ≡ record { answer = accepted nothing; book = freshBook X }
 unfolding call
 start-leaves Z b X fair = rw fair
