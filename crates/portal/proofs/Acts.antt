@@ -42,7 +42,7 @@ use Rattle.reasons.specs.Held.{usedAt}
 use Rattle.refusals.specs.First.{usedNumber}
 use Rattle.reasons.proofs.Held.{used-below}
 use Rattle.refusals.proofs.First.{asked-clear}
-use Rattle.portal.specs.Fresh.{cleared, freeAfter}
+use Rattle.portal.specs.Freed.{cleared, freeAfter}
 
 -- the number n alone, and the bytes b
 abbrev pub Files : List ℕ → Act → ℕ → List ℕ → Type 0

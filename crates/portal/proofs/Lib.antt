@@ -1,4 +1,4 @@
 -- The laws of the calls.
-pub mod Fresh
+pub mod Started
 pub mod Acts
 pub mod Asked

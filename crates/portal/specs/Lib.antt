@@ -1,2 +1,2 @@
 -- Records that are freed.
-pub mod Fresh
+pub mod Freed

@@ -1,24 +1,20 @@
 // The calls on a book: each answers what the rules say, on any bytes, and leaves every byte that they say.
 ghost use mathlib.Core.Path.{_≡_};
-ghost use mathlib.Core.Bool.{true};
 ghost use Prim.Native.Nat.{_<_, _≤_};
 ghost use lib.ListN.{length};
 ghost use denote.Ref.{ptr};
-ghost use Rattle.tools.specs.Lists.{tab, Filled};
-ghost use Rattle.rules.specs.Setups.{permits};
 ghost use Rattle.rules.specs.Model;
 ghost use Rattle.rules.specs.Model.{refusal};
 ghost use Rattle.rules.specs.Calls;
-ghost use Rattle.rules.specs.Calls.{on, freshBook};
+ghost use Rattle.rules.specs.Calls.{on};
 ghost use Rattle.rules.specs.Replies.{stampedSays, postedSays, keptSays, toldSays, comparedSays, blank};
 ghost use Rattle.rules.specs.Replies.{Beside, BesidePost};
 ghost use Rattle.book.specs.Layout;
-ghost use Rattle.book.specs.Layout.{bookSize, records, shelfFrom, seats, headSize, headByte, setupOf};
-ghost use Rattle.book.specs.Codec.{encode};
+ghost use Rattle.book.specs.Layout.{bookSize, records, shelfFrom, seats, setupOf};
 ghost use Rattle.book.specs.Answers.{answerTo, bookAfter, partOf, partFrom, targetAfter};
 ghost use Rattle.refusals.specs.First.{usedNumber};
 ghost use Rattle.parts.specs.Slices.{place};
-ghost use Rattle.portal.specs.Fresh.{cleared, Written, Marks, freeAfter};
+ghost use Rattle.portal.specs.Freed.{cleared, freeAfter};
 use rules::Compared;
 use rules::Kept;
 use rules::Posted;
@@ -84,81 +80,6 @@ fn take_row(book: &mut [u8], desk: usize, row: [u8; 16]) -> Stamped
     }
 }
 
-fn head_of(s: Setup) -> [u8; 16]
-    requires { ⌜ permits s ≡ true ⌝ }
-    ensures { λ r. ⌜ r ≡ tab 0 headSize (headByte s) ⌝ }
-{
-    [
-        parts::BOOK_MARK0,
-        parts::BOOK_MARK1,
-        s.desks as u8,
-        s.phases as u8,
-        s.clocks as u8,
-        s.seatLag as u8,
-        s.shelfLag as u8,
-        s.back as u8,
-        s.ahead as u8,
-        0,
-        0,
-        0,
-        0,
-        0,
-        0,
-        0,
-    ]
-}
-
-// A loop that does nothing else: the compiler makes one fill of it.
-fn write_zeros(book: &mut [u8])
-    requires { ⌜ length (now book) ≡ bookSize ⌝ }
-    ensures { λ _. ⌜ Filled bookSize bookSize (λ i. 0) (now (book .exit)) ⌝ }
-{
-    let mut i: usize = 0;
-    while i < parts::BOOK_BYTES {
-        book[i] = 0;
-        i += 1;
-    }
-}
-
-fn write_head(book: &mut [u8], s: Setup)
-    requires { ⌜ Filled bookSize bookSize (λ i. 0) (now book) ⌝ }
-    requires { ⌜ permits s ≡ true ⌝ }
-    ensures { λ _. ⌜ Written s 0 (now (book .exit)) ⌝ }
-{
-    let head = head_of(s);
-    let mut i: usize = 0;
-    while i < parts::HEAD_BYTES {
-        book[i] = head[i];
-        i += 1;
-    }
-}
-
-fn write_marks(book: &mut [u8], from: usize, to: usize)
-    requires { ⌜ length (now book) ≡ bookSize ⌝ }
-    requires { ⌜ (from ≤ to) × (to ≤ records) ⌝ }
-    ensures { λ _. ⌜ Marks from to (now (book .entry)) (now (book .exit)) ⌝ }
-{
-    let mut k: usize = from;
-    while k < to {
-        book[parts::spot(k, 0)] = parts::first_mark(k);
-        book[parts::spot(k, 1)] = parts::second_mark(k);
-        k += 1;
-    }
-}
-
-// Zeros in one sweep, and the marks one kind of record after the other: so a mark is a constant, and no record asks which it has.
-fn write_fresh(book: &mut [u8], s: Setup)
-    requires { ⌜ length (now book) ≡ bookSize ⌝ }
-    requires { ⌜ permits s ≡ true ⌝ }
-    ensures { λ _. ⌜ now (book .exit) ≡ encode (freshBook s) ⌝ }
-{
-    write_zeros(book);
-    write_head(book, s);
-    write_marks(book, 0, parts::MAIL);
-    write_marks(book, parts::MAIL, parts::SHELF);
-    write_marks(book, parts::SHELF, parts::RECORDS);
-}
-
 // Start writes a fresh book, whatever the bytes were: rows zero, no seat started, all places free.
 pub fn start(book: &mut [u8], s: Setup) -> u8
     ensures { λ r. ⌜ refusal r ≡ answerTo (now (book .entry)) (Calls.start s) ⌝ }
@@ -170,7 +91,7 @@ pub fn start(book: &mut [u8], s: Setup) -> u8
     if !rules::permits(s) {
         return rules::BAD_SETUP;
     }
-    write_fresh(book, s);
+    fresh::write_fresh(book, s);
     rules::DONE
 }
 

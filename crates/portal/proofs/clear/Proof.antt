@@ -1,11 +1,18 @@
 -- `portal::clear` meets its contract.
 -- Assumes nothing.
-use mathlib.Core.Path.{ap, _∙_}
+use mathlib.Core.Path.{_≡_, refl, ap, _∙_}
+use lib.ListN.{replicate}
+use Rattle.tools.specs.Lists.{tab}
+use Rattle.rules.specs.Model.{zeros}
+use Rattle.rules.specs.Replies.{rowByte, rowBytes}
 use Rattle.book.specs.Layout.{post}
-use Rattle.portal.proofs.Fresh.{zero-bytes}
 use borrow.Author.Needs.{needs}
 use Rattle.portal.proofs.clear.Statement.{statement}
 use Rattle.portal.proofs.clear.Tie as tie
+
+zero-bytes : replicate 16 0 ≡ rowBytes zeros
+unfolding rowBytes rowByte tab
+zero-bytes = refl
 
 returns : tie.Need-returns
 returns c =

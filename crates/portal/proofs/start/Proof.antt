@@ -4,7 +4,7 @@ use mathlib.Core.Path.{_≡_, sym, _∙_}
 use mathlib.Core.Bool.{true}
 use borrow.Author.Tests.{not-true, not-false}
 use Rattle.rules.specs.Setups.{permits}
-use Rattle.portal.proofs.Fresh.{start-badbook, start-badsetup, start-done}
+use Rattle.portal.proofs.Started.{start-badbook, start-badsetup, start-done}
 use borrow.Author.Needs.{needs}
 use Rattle.portal.proofs.start.Statement.{statement}
 use Rattle.portal.proofs.start.Tie as tie

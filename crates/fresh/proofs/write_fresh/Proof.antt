@@ -1,9 +1,9 @@
--- `portal::write_fresh` meets its contract.
+-- `fresh::write_fresh` meets its contract.
 -- Assumes nothing.
 use borrow.Author.Needs.{needs}
-use Rattle.portal.proofs.Fresh.{written-all}
-use Rattle.portal.proofs.write_fresh.Statement.{statement}
-use Rattle.portal.proofs.write_fresh.Tie as tie
+use Rattle.fresh.proofs.Written.{written-all}
+use Rattle.fresh.proofs.write_fresh.Statement.{statement}
+use Rattle.fresh.proofs.write_fresh.Tie as tie
 
 returns : tie.Need-returns
 returns c =

@@ -1,4 +1,4 @@
--- A fresh book, record by record, and what start answers and leaves.
+-- A fresh book, record by record.
 -- Assumes nothing.
 use Prim.Native.Nat.{ℕ, _+_, _%_, _<_, _≤_}
 use mathlib.Core.Path.{_≡_, refl, sym, ap, _∙_}
@@ -6,9 +6,8 @@ use mathlib.Core.Bool.{Bool, true, false}
 use mathlib.Core.List.{List}
 use native.Mathlib.Omega.{arith}
 use borrow.Author.Count.{below-more}
-use borrow.Author.Tests.{eq-eqb, ne-eqb}
 use lib.Dec.{ltb, eqb}
-use lib.ListN.{length, set, replicate, length-set}
+use lib.ListN.{set, length-set}
 use lib.Seq.{getD-set-same, getD-set-other}
 use Rattle.tools.specs.Tests.{pick}
 use Rattle.tools.specs.Lists.{byte, tab, Filled}
@@ -16,21 +15,16 @@ use Rattle.tools.proofs.Tests.{and-true-l}
 use Rattle.tools.proofs.Lists.{tab-at}
 use Rattle.rules.specs.declared.Setup.{Setup}
 use Rattle.rules.specs.Setups.{inRange, related, permits}
-use Rattle.rules.specs.Model.{refusal, zeros, fresh}
-use Rattle.rules.specs.Calls.{start, call, freshBook}
-use Rattle.rules.specs.Replies.{rowByte, rowBytes}
+use Rattle.rules.specs.Model.{zeros, fresh}
+use Rattle.rules.specs.Calls.{freshBook}
+use Rattle.rules.specs.Replies.{rowByte}
 use Rattle.rules.proofs.Setups.{Ranged, ranged}
 use Rattle.book.specs.Layout.{headSize, rowSpot, tagASpot, tagBSpot}
 use Rattle.book.specs.Layout.{bookSize, records, shelfFrom, Record, spot, headByte, mark0, mark1, recordByte}
 use Rattle.book.specs.Codec.{recordOf, write, encode}
-use Rattle.book.specs.Answers.{admits, answerTo, bookAfter}
 use Rattle.book.proofs.Bytes.{record-bytes, layout-is}
 use Rattle.book.proofs.Posted.{spot-same}
-use Rattle.portal.specs.Fresh.{Written}
-
-pub zero-bytes : replicate 16 0 ≡ rowBytes zeros
-unfolding rowBytes rowByte tab
-zero-bytes = refl
+use Rattle.fresh.specs.Written.{Written}
 
 -- every setup number fits a byte
 pub fits : (X : Setup) → permits X ≡ true → Ranged X
@@ -121,26 +115,3 @@ written-all X b h =
           (h .rest k tagASpot lk (omega arith) (omega arith)) (h .rest k tagBSpot lk (omega arith) (omega arith))
           (λ c m. zero-byte c ∙ h .rest k (rowSpot + c) lk (omega arith) (omega arith)) c lc;
     }))
-
--- start refuses a bad length, then a bad setup
-module _ (s : List ℕ) (X : Setup) where
-  abbrev pub Starts : ℕ → List ℕ → Type 0
-  Starts n b = (refusal n ≡ answerTo s (start X)) × (b ≡ bookAfter s (start X))
-
-  pub start-badbook : (length s ≡ bookSize → ⊥) → Starts 1 s
-  unfolding answerTo bookAfter admits
-  start-badbook n = (rw (answerTo, admits, ne-eqb (length s) bookSize n), rw (bookAfter, answerTo, admits, ne-eqb (length s) bookSize n))
-
-  pub start-badsetup : length s ≡ bookSize → permits X ≡ false → Starts 2 s
-  unfolding answerTo bookAfter admits call
-  start-badsetup e p = (
-    rw (answerTo, admits, eq-eqb (length s) bookSize e, call, p),
-    rw (bookAfter, answerTo, admits, eq-eqb (length s) bookSize e, call, p),
-  )
-
-  pub start-done : length s ≡ bookSize → permits X ≡ true → Starts 0 (encode (freshBook X))
-  unfolding answerTo bookAfter admits call
-  start-done e p = (
-    rw (answerTo, admits, eq-eqb (length s) bookSize e, call, p),
-    rw (bookAfter, answerTo, admits, eq-eqb (length s) bookSize e, call, p),
-  )

@@ -1,4 +1,4 @@
--- `portal::write_zeros` meets its contract.
+-- `fresh::write_zeros` meets its contract.
 -- Assumes nothing.
 use Prim.Native.Nat.{_≤_, _-_}
 use mathlib.Core.Path.{_≡_, refl, sym, _∙_}
@@ -7,8 +7,8 @@ use borrow.Author.Needs.{needs}
 use Rattle.tools.specs.Lists.{Filled}
 use Rattle.tools.proofs.Lists.{filled-none, filled-more}
 use Rattle.book.specs.Layout.{bookSize}
-use Rattle.portal.proofs.write_zeros.Statement.{statement}
-use Rattle.portal.proofs.write_zeros.Tie as tie
+use Rattle.fresh.proofs.write_zeros.Statement.{statement}
+use Rattle.fresh.proofs.write_zeros.Tie as tie
 
 abbrev Inv-loop : tie.InvT-loop
 Inv-loop book₀ i₀ book i = (i ≤ bookSize) × Filled bookSize i (λ t. 0) book

@@ -1,12 +1,12 @@
--- `portal::head_of` meets its contract.
+-- `fresh::head_of` meets its contract.
 -- Assumes nothing.
 use native.Mathlib.Omega.{arith}
 use mathlib.Core.Path.{refl}
 use Rattle.tools.specs.Lists.{tab}
 use Rattle.book.specs.Layout.{headByte}
-use Rattle.portal.proofs.Fresh.{fits}
-use Rattle.portal.proofs.head_of.Statement.{statement}
-use Rattle.portal.proofs.head_of.Tie as tie
+use Rattle.fresh.proofs.Written.{fits}
+use Rattle.fresh.proofs.head_of.Statement.{statement}
+use Rattle.fresh.proofs.head_of.Tie as tie
 
 cast-t2 : tie.Need-cast-t2
 cast-t2 c = let x = c .before in let r = fits (x .args .s) (x .pre) in omega arith

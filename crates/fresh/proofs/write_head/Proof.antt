@@ -1,4 +1,4 @@
--- `portal::write_head` meets its contract.
+-- `fresh::write_head` meets its contract.
 -- Assumes nothing.
 use Prim.Native.Nat.{ℕ, _≤_, _<_, _-_}
 use mathlib.Core.Path.{_≡_, refl, sym, _∙_}
@@ -8,9 +8,9 @@ use lib.Seq.{getD-set-other}
 use Rattle.tools.specs.Lists.{byte, Filled}
 use Rattle.tools.proofs.Lists.{filled-none, filled-more}
 use Rattle.book.specs.Layout.{bookSize, headSize}
-use Rattle.portal.proofs.Fresh.{written-head}
-use Rattle.portal.proofs.write_head.Statement.{statement}
-use Rattle.portal.proofs.write_head.Tie as tie
+use Rattle.fresh.proofs.Written.{written-head}
+use Rattle.fresh.proofs.write_head.Statement.{statement}
+use Rattle.fresh.proofs.write_head.Tie as tie
 
 abbrev Inv-loop : tie.InvT-loop
 Inv-loop book₀ head i₀ book i =

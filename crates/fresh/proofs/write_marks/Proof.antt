@@ -1,4 +1,4 @@
--- `portal::write_marks` meets its contract.
+-- `fresh::write_marks` meets its contract.
 -- Assumes nothing.
 use Prim.Native.Nat.{_-_, _≤_}
 use mathlib.Core.Path.{_≡_, sym, _∙_}
@@ -6,10 +6,10 @@ use native.Mathlib.Omega.{arith}
 use borrow.Author.Needs.{needs}
 use lib.ListN.{length, length-set}
 use Rattle.book.specs.Layout.{bookSize}
-use Rattle.portal.specs.Fresh.{Marks}
-use Rattle.portal.proofs.Fresh.{written-more}
-use Rattle.portal.proofs.write_marks.Statement.{statement}
-use Rattle.portal.proofs.write_marks.Tie as tie
+use Rattle.fresh.specs.Written.{Marks}
+use Rattle.fresh.proofs.Written.{written-more}
+use Rattle.fresh.proofs.write_marks.Statement.{statement}
+use Rattle.fresh.proofs.write_marks.Tie as tie
 
 abbrev Inv-loop : tie.InvT-loop
 Inv-loop book₀ from to k₀ book k = (k ≤ to) × (length book ≡ bookSize) × Marks from k book₀ book

@@ -1,0 +1,2 @@
+-- The laws of a fresh book.
+pub mod Written

@@ -1,0 +1,2 @@
+-- A fresh book, as far as it is written.
+pub mod Written

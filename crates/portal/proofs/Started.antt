@@ -1,0 +1,38 @@
+-- What start answers and leaves.
+-- Assumes nothing.
+use Prim.Native.Nat.{ℕ}
+use mathlib.Core.Path.{_≡_}
+use mathlib.Core.Bool.{true, false}
+use mathlib.Core.List.{List}
+use borrow.Author.Tests.{eq-eqb, ne-eqb}
+use lib.ListN.{length}
+use Rattle.rules.specs.declared.Setup.{Setup}
+use Rattle.rules.specs.Setups.{permits}
+use Rattle.rules.specs.Model.{refusal}
+use Rattle.rules.specs.Calls.{start, call, freshBook}
+use Rattle.book.specs.Layout.{bookSize}
+use Rattle.book.specs.Codec.{encode}
+use Rattle.book.specs.Answers.{admits, answerTo, bookAfter}
+
+-- start refuses a bad length, then a bad setup
+module _ (s : List ℕ) (X : Setup) where
+  abbrev pub Starts : ℕ → List ℕ → Type 0
+  Starts n b = (refusal n ≡ answerTo s (start X)) × (b ≡ bookAfter s (start X))
+
+  pub start-badbook : (length s ≡ bookSize → ⊥) → Starts 1 s
+  unfolding answerTo bookAfter admits
+  start-badbook n = (rw (answerTo, admits, ne-eqb (length s) bookSize n), rw (bookAfter, answerTo, admits, ne-eqb (length s) bookSize n))
+
+  pub start-badsetup : length s ≡ bookSize → permits X ≡ false → Starts 2 s
+  unfolding answerTo bookAfter admits call
+  start-badsetup e p = (
+    rw (answerTo, admits, eq-eqb (length s) bookSize e, call, p),
+    rw (bookAfter, answerTo, admits, eq-eqb (length s) bookSize e, call, p),
+  )
+
+  pub start-done : length s ≡ bookSize → permits X ≡ true → Starts 0 (encode (freshBook X))
+  unfolding answerTo bookAfter admits call
+  start-done e p = (
+    rw (answerTo, admits, eq-eqb (length s) bookSize e, call, p),
+    rw (bookAfter, answerTo, admits, eq-eqb (length s) bookSize e, call, p),
+  )
