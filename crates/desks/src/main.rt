@@ -3,12 +3,12 @@ ghost use mathlib.Core.Path.{_≡_};
 ghost use Prim.Native.Nat.{_≤_};
 ghost use lib.ListN.{length, take};
 ghost use Rattle.io.specs.Counts.{clamped};
-ghost use Rattle.text.specs.Put.{Wrote};
 ghost use Rattle.text.specs.Stream.{most, held, lastBook};
 ghost use Rattle.answering.specs.Answering.{answering};
 ghost use Rattle.listing.specs.Feeding.{Feeds};
-ghost use Rattle.desks.specs.declared.Went.the-variants.{On};
-ghost use Rattle.desks.specs.Ends.{failureWent, callWent, readWent, writeWent, Told, Follows, endBook, Ends, wordOf};
+ghost use Rattle.ends.specs.declared.Went.the-variants.{On};
+ghost use Rattle.ends.specs.Ends.{readWent, Told, Follows, endBook, Ends};
+use ends::Went;
 use libc::STDIN_FILENO;
 use libc::STDOUT_FILENO;
 use text::Pending;
@@ -16,15 +16,6 @@ use text::Pending;
 // A proved loop has to end, and nothing says that the input does, or that the output is ever ready. So a loop over either counts its
 // turns down, from a number that no run uses up.
 const TURNS: u64 = u64::MAX;
-
-// What became of the run: it goes on; the input has ended; nobody reads the output any more; or an end has failed.
-enum Went {
-    On,
-    Ended,
-    Gone,
-    Unread,
-    Unwritten,
-}
 
 // How many bytes of a text are not written, and what became of the run.
 struct Put {
@@ -41,48 +32,6 @@ struct Turn {
     went: Went,
 }
 
-// Lets other programs run while an end is not ready. A sleep would lend a struct, which the proofs do not cover.
-fn pause() {
-    libc::sched_yield();
-}
-
-// What becomes of the run where a call fails for the system's reason.
-fn failure_went(error: i32, bad: Went) -> Went
-    ensures { λ r. ⌜ r ≡ failureWent error bad ⌝ }
-{
-    if error == libc::EAGAIN {
-        pause();
-        return Went::On;
-    }
-    if error == libc::EINTR {
-        return Went::On;
-    }
-    if error == libc::EPIPE {
-        return Went::Gone;
-    }
-    bad
-}
-
-// The same of a call that moves bytes.
-fn call_went(got: isize, error: i32, none: Went, bad: Went) -> Went
-    ensures { λ r. ⌜ r ≡ callWent got error none bad ⌝ }
-{
-    if got < 0 {
-        return failure_went(error, bad);
-    }
-    if got == 0 {
-        return none;
-    }
-    Went::On
-}
-
-// The same of a write, which moves a byte or fails.
-fn write_went(got: isize, error: i32) -> Went
-    ensures { λ r. ⌜ r ≡ writeWent got error ⌝ }
-{
-    call_went(got, error, Went::Unwritten, Went::Unwritten)
-}
-
 // A text is written, and waited for as long as it takes.
 fn write_out(out: &[u8]) -> Put
     ensures { λ r. ⌜ Told (r .went) (r .left) ⌝ }
@@ -91,7 +40,7 @@ fn write_out(out: &[u8]) -> Put
     let mut turns = TURNS;
     while done < out.len() && turns > 0 {
         let got = libc::write(STDOUT_FILENO, &out[done..]);
-        let tried = write_went(got, os::errno());
+        let tried = ends::write_went(got, os::errno());
         let Went::On = tried else {
             return Put {
                 left: out.len() - done,
@@ -155,7 +104,7 @@ fn take_turn(book: &mut [u8], p: Pending, space: &[u8], got: isize, error: i32) 
     ensures { λ r. ⌜ Follows (readWent got error) (r .went) ⌝ }
     ensures { λ r. ⌜ (r .went ≡ On → (r .left ≡ 0) × (r .used ≡ clamped got (length (now (space .entry))))) ⌝ }
 {
-    let read = call_went(got, error, Went::Ended, Went::Unread);
+    let read = ends::read_went(got, error);
     let Went::On = read else {
         return Turn {
             pending: p,
@@ -190,20 +139,6 @@ fn ending(book: &mut [u8], p: Pending, w: Went) -> Went
     put.went
 }
 
-// What the program says at its end.
-fn word(out: &mut [u8], w: Went) -> usize
-    requires { ⌜ 22 ≤ length (now out) ⌝ }
-    ensures { λ r. ⌜ Wrote (now (out .entry)) 0 (wordOf w) (now (out .exit)) r ⌝ }
-{
-    match w {
-        Went::On => 0,
-        Went::Ended => 0,
-        Went::Gone => 0,
-        Went::Unread => text::put_text(out, 0, b"desks: standard input"),
-        Went::Unwritten => text::put_text(out, 0, b"desks: standard output"),
-    }
-}
-
 // Turn after turn, until the run does not go on. Where the input has ended, the last line is answered.
 fn run(book: &mut [u8]) -> Went {
     let mut space = io::buffer();
@@ -226,7 +161,7 @@ fn main() {
     let mut book = [0u8; parts::BOOK_BYTES];
     let w = run(&mut book);
     let mut out = [0u8; 22];
-    let n = word(&mut out, w);
+    let n = ends::word(&mut out, w);
     if n > 0 {
         os::fail(&out[..n]);
     }

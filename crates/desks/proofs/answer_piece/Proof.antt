@@ -3,7 +3,7 @@ use Rattle.text.specs.Stream.{held}
 use Rattle.text.proofs.Writing.{wrote-length}
 use Rattle.listing.specs.Feeding.{Feeds}
 use Rattle.listing.proofs.Listings.{feeds-none, feeds-on}
-use Rattle.desks.proofs.Reasons.{not-on}
+use Rattle.ends.proofs.Reasons.{not-on}
 use lib.ListN.{length, take, drop, length-take, length-drop}
 use lib.Seq.{take-all}
 use borrow.Author.Needs.{needs}

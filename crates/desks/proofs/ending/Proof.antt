@@ -1,7 +1,8 @@
 -- `desks::ending` meets its contract. Assumes nothing.
 use Rattle.text.specs.Stream.{held}
-use Rattle.desks.proofs.Reasons.{ends}
+use Rattle.ends.proofs.Reasons.{ends, ends-last}
 use borrow.Author.Needs.{needs}
+use mathlib.Core.Path.{_∙_}
 use Rattle.desks.proofs.ending.Statement.{statement}
 use Rattle.desks.proofs.ending.Tie as tie
 
@@ -11,7 +12,8 @@ returns c = let a = c .before .before .args in ends (a .w) (c .match .keys2) (he
 returns-2 : tie.Need-returns-2
 returns-2 c =
     let k = c .before .before in
-    rw (k .before .before .enum-told .given .1) (k .last-turn .ensures .0, tt)
+    let l = ends-last _ (k .last-turn .result .went) (k .before .before .enum-told .given .1) _ in
+    (k .last-turn .ensures .0 ∙ l .0, l .1)
 
 pub ending-spec : {M : Type 1} → statement M
 ending-spec = tie.close (tie.spec (λ c. search needs) returns (λ c κs. search needs) (λ c. search needs) returns-2)

@@ -1,9 +1,9 @@
 -- `desks::take_turn` meets its contract. Assumes nothing.
 use Rattle.io.specs.Counts.{clamped}
 use Rattle.listing.proofs.Listings.{feeds-none}
-use Rattle.desks.specs.declared.Went.{Went}
-use Rattle.desks.specs.Ends.{readWent, Told, Follows}
-use Rattle.desks.proofs.Reasons.{not-on, follows}
+use Rattle.ends.specs.declared.Went.{Went}
+use Rattle.ends.specs.Ends.{readWent, Told, Follows}
+use Rattle.ends.proofs.Reasons.{not-on, follows}
 use lib.ListN.{length}
 use mir.Syntax.{w32, w64}
 use mir.ValLaws.{toZ-ofZ}
@@ -12,16 +12,15 @@ use mathlib.Core.Path.{_≡_, sym, subst, _∙_}
 use Rattle.desks.proofs.take_turn.Statement.{statement}
 use Rattle.desks.proofs.take_turn.Tie as tie
 
-abbrev entry : tie.After-call-went → tie.Start
+abbrev entry : tie.After-read-went → tie.Start
 entry c = c .before .before .before
 
-abbrev called : tie.After-count → tie.After-call-went
+abbrev called : tie.After-count → tie.After-read-went
 called c = c .before .before .before
 
 -- what the read made of the run
-read : (c : tie.After-call-went) → c .call-went .result ≡ readWent (entry c .args .got) (entry c .args .error)
-unfolding readWent
-read c = rw (toZ-ofZ w64 _ (entry c .fits .got), toZ-ofZ w32 _ (entry c .fits .error)) at (c .call-went .ensures)
+read : (c : tie.After-read-went) → c .read-went .result ≡ readWent (entry c .args .got) (entry c .args .error)
+read c = rw (toZ-ofZ w64 _ (entry c .fits .got), toZ-ofZ w32 _ (entry c .fits .error)) at (c .read-went .ensures)
 
 -- how many bytes it moved
 counted
@@ -32,7 +31,7 @@ counted c = rw (toZ-ofZ w64 _ (entry (called c) .fits .got)) at (c .count .ensur
 returns : tie.Need-returns
 returns c = (
   feeds-none _ _ _ (entry (c .before) .pre),
-  (subst (λ (v : Went). Follows v (c .before .call-went .result)) (read (c .before)) (follows (c .before .call-went .result)), λ e. absurd (not-on _ (c .match .keys2) e)),
+  (subst (λ (v : Went). Follows v (c .before .read-went .result)) (read (c .before)) (follows (c .before .read-went .result)), λ e. absurd (not-on _ (c .match .keys2) e)),
 )
 
 returns-2 : tie.Need-returns-2

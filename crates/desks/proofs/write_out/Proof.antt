@@ -1,5 +1,5 @@
 -- `desks::write_out` meets its contract. The measure is the number of turns that are left. Assumes nothing.
-use Rattle.desks.proofs.Reasons.{untold}
+use Rattle.ends.proofs.Reasons.{untold}
 use lib.ListN.{length, length-drop, length-take}
 use borrow.Author.Needs.{needs}
 use borrow.Author.Tests.{ltb-true}

@@ -1,9 +1,9 @@
--- `desks::word` meets its contract. Assumes nothing.
+-- `ends::word` meets its contract. Assumes nothing.
 use Rattle.text.proofs.Writing.{none}
 use borrow.Author.Needs.{needs}
 use native.Mathlib.Omega.{arith}
-use Rattle.desks.proofs.word.Statement.{statement}
-use Rattle.desks.proofs.word.Tie as tie
+use Rattle.ends.proofs.word.Statement.{statement}
+use Rattle.ends.proofs.word.Tie as tie
 
 returns : tie.Need-returns
 returns c = rw (c .enum-told .given .1) (none _ 0 (omega arith))

@@ -20,8 +20,8 @@ use Rattle.tools.specs.Tests.{pick}
 use Rattle.text.specs.Words.{ascii}
 use Rattle.text.specs.Stream.{State, lastBook}
 use Rattle.answering.specs.Answering.{answering}
-use Rattle.desks.specs.declared.Went.{Went}
-use Rattle.desks.specs.declared.Went.the-variants.{On, Ended, Gone, Unread, Unwritten}
+use Rattle.ends.specs.declared.Went.{Went}
+use Rattle.ends.specs.declared.Went.the-variants.{On, Ended, Gone, Unread, Unwritten}
 
 unfoldable pub failureWent : ℤ → Went → Went
 failureWent (pos e) bad = pick (eqb e 11 || eqb e 4) On (pick (eqb e 32) Gone bad)

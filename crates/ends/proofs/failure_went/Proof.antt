@@ -1,10 +1,10 @@
--- `desks::failure_went` meets its contract. Assumes nothing.
+-- `ends::failure_went` meets its contract. Assumes nothing.
 use borrow.Author.Needs.{needs}
 use mir.Syntax.{w32}
-use Rattle.desks.specs.Ends.{failureWent}
-use Rattle.desks.proofs.Reasons.{read-back, other-reason}
-use Rattle.desks.proofs.failure_went.Statement.{statement}
-use Rattle.desks.proofs.failure_went.Tie as tie
+use Rattle.ends.specs.Ends.{failureWent}
+use Rattle.ends.proofs.Reasons.{read-back, other-reason}
+use Rattle.ends.proofs.failure_went.Statement.{statement}
+use Rattle.ends.proofs.failure_went.Tie as tie
 
 returns : tie.Need-returns
 unfolding failureWent

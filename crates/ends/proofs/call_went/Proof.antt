@@ -1,11 +1,11 @@
--- `desks::call_went` meets its contract. Assumes nothing.
+-- `ends::call_went` meets its contract. Assumes nothing.
 use borrow.Author.Needs.{needs}
 use mir.Syntax.{w32, w64}
 use mir.ValLaws.{toZ-ofZ}
-use Rattle.desks.proofs.Reasons.{read-back, failed, moved}
-use Rattle.desks.specs.Ends.{callWent}
-use Rattle.desks.proofs.call_went.Statement.{statement}
-use Rattle.desks.proofs.call_went.Tie as tie
+use Rattle.ends.proofs.Reasons.{read-back, failed, moved}
+use Rattle.ends.specs.Ends.{callWent}
+use Rattle.ends.proofs.call_went.Statement.{statement}
+use Rattle.ends.proofs.call_went.Tie as tie
 
 returns : tie.Need-returns
 returns c =

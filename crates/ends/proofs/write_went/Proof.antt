@@ -1,10 +1,10 @@
--- `desks::write_went` meets its contract. Assumes nothing.
+-- `ends::write_went` meets its contract. Assumes nothing.
 use borrow.Author.Needs.{needs}
 use mir.Syntax.{w32, w64}
 use mir.ValLaws.{toZ-ofZ}
-use Rattle.desks.specs.Ends.{writeWent}
-use Rattle.desks.proofs.write_went.Statement.{statement}
-use Rattle.desks.proofs.write_went.Tie as tie
+use Rattle.ends.specs.Ends.{writeWent}
+use Rattle.ends.proofs.write_went.Statement.{statement}
+use Rattle.ends.proofs.write_went.Tie as tie
 
 returns : tie.Need-returns
 unfolding writeWent

@@ -7,6 +7,7 @@
 --   untold         a write that ends the run leaves bytes unwritten
 --   follows        a run that ends as its read did
 --   ends           a run whose input has not ended ends as it went, and leaves the book alone
+--   ends-last      one whose input has ended leaves the book that its last line leaves
 use Prim.Native.Nat.{ℕ, zero, suc, _<_}
 use mathlib.Core.Path.{_≡_, refl, sym, ap, _∙_, subst}
 use mathlib.Core.Bool.{Bool, true, false, true≢false, _||_}
@@ -22,11 +23,12 @@ use mir.ValLaws.{toZ-ofZ}
 use denote.Enum.Declared.{tagOf}
 use types.Run.{OneOf, miss}
 use Rattle.tools.specs.Tests.{pick}
-use Rattle.text.specs.Stream.{State}
-use Rattle.desks.specs.declared.Went.{Went}
-use Rattle.desks.specs.declared.Went.the-variants.{On, Ended, Gone, Unread, Unwritten}
-use Rattle.desks.specs.Ends.{failureWent, callWent, writeWent, Told, Follows, endBook, Ends}
-use Rattle.desks.proofs.Went.{the-type}
+use Rattle.text.specs.Stream.{State, lastBook}
+use Rattle.answering.specs.Answering.{answering}
+use Rattle.ends.specs.declared.Went.{Went}
+use Rattle.ends.specs.declared.Went.the-variants.{On, Ended, Gone, Unread, Unwritten}
+use Rattle.ends.specs.Ends.{failureWent, callWent, writeWent, Told, Follows, endBook, Ends}
+use Rattle.ends.proofs.Went.{the-type}
 
 pub read-back : (w : Width) (z : ℤ) → SFits w z → (n : ℕ) → ofZ w z ≡ n → z ≡ toZ w n
 read-back w z f n e = sym (toZ-ofZ w z f) ∙ ap (toZ w) e
@@ -121,3 +123,6 @@ ends Ended k s = absurd (miss (0 ∷ 2 ∷ 3 ∷ 4 ∷ []) 1 tt k)
 ends Gone k s = (refl, refl)
 ends Unread k s = (refl, refl)
 ends Unwritten k s = (refl, refl)
+
+pub ends-last : (w v : Went) → w ≡ Ended → (s : State) → (lastBook answering s ≡ endBook w s) × Ends w v
+ends-last w v e s = rw e (refl, tt)
