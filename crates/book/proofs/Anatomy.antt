@@ -23,6 +23,7 @@ use lib.ListN.{length, take, drop, set, replicate}
 use Rattle.tools.specs.Tests.{allOf, allBelow, within}
 use Rattle.tools.specs.Lists.{tab}
 use Rattle.tools.specs.Tables.{put}
+use Rattle.tools.proofs.Tests.{not-each}
 use Rattle.rules.specs.declared.Setup.{Setup}
 use Rattle.rules.specs.Setups.{permits, inRange, related}
 use Rattle.rules.specs.Model.{Row, idle}
@@ -126,10 +127,14 @@ record-numbers = refl
 
 -- on any bytes of that length, whatever they say
 module _ (s : List ℕ) where
+  unsound : eqb (length s) 1456 ≡ false → sound s ≡ false
+  unfolding sound
+  unsound e = not-each _ 0 e
+
   other-length : eqb (length s) 1456 ≡ false → (c : Call) → answerTo s c .number ≡ 1
-  unfolding answerTo admits sound allOf
+  unfolding answerTo admits
   other-length e (start Y) = rw (answerTo, e)
-  other-length e (on a) = rw (answerTo, sound, e)
+  other-length e (on a) = rw (answerTo, unsound e)
 
   pub length-1455 : length s ≡ 1455 → (c : Call) → answerTo s c .number ≡ 1
   length-1455 e = other-length (ap (λ n. eqb n 1456) e)
