@@ -6,8 +6,8 @@ ghost use Rattle.io.specs.Counts.{clamped};
 ghost use Rattle.text.specs.Stream.{most, held, lastBook};
 ghost use Rattle.answering.specs.Answering.{answering};
 ghost use Rattle.listing.specs.Feeding.{Feeds};
-ghost use Rattle.ends.specs.declared.Went.the-variants.{On};
-ghost use Rattle.ends.specs.Ends.{readWent, Told, Follows, endBook, Ends};
+ghost use Rattle.ends.specs.declared.Went.the-variants.{On, Ended};
+ghost use Rattle.ends.specs.Ends.{readWent, Told, Goes, endBook};
 use ends::Went;
 use libc::STDIN_FILENO;
 use libc::STDOUT_FILENO;
@@ -101,8 +101,8 @@ fn take_turn(book: &mut [u8], p: Pending, space: &[u8], got: isize, error: i32) 
     requires { ⌜ p .count ≤ most ⌝ }
     ensures { λ r. ⌜ Feeds (held (now (book .entry)) p) (take (clamped got (length (now (space .entry)))) (now (space .entry)))
         (r .used) (now (book .exit)) (r .pending) ⌝ }
-    ensures { λ r. ⌜ Follows (readWent got error) (r .went) ⌝ }
-    ensures { λ r. ⌜ (r .went ≡ On → (r .left ≡ 0) × (r .used ≡ clamped got (length (now (space .entry))))) ⌝ }
+    ensures { λ r. ⌜ Goes On (readWent got error) (r .went) (r .left) ⌝ }
+    ensures { λ r. ⌜ (r .went ≡ On → r .used ≡ clamped got (length (now (space .entry)))) ⌝ }
 {
     let read = ends::read_went(got, error);
     let Went::On = read else {
@@ -128,15 +128,14 @@ fn last_turn(book: &mut [u8], p: Pending) -> Put
 }
 
 // How the run ends: where the input has ended, after its last line.
-fn ending(book: &mut [u8], p: Pending, w: Went) -> Went
+fn ending(book: &mut [u8], p: Pending, w: Went) -> Put
     requires { ⌜ p .count ≤ most ⌝ }
-    ensures { λ r. ⌜ (now (book .exit) ≡ endBook w (held (now (book .entry)) p)) × Ends w r ⌝ }
+    ensures { λ r. ⌜ (now (book .exit) ≡ endBook w (held (now (book .entry)) p)) × Goes Ended w (r .went) (r .left) ⌝ }
 {
     let Went::Ended = w else {
-        return w;
+        return Put { left: 0, went: w };
     };
-    let put = last_turn(book, p);
-    put.went
+    last_turn(book, p)
 }
 
 // Turn after turn, until the run does not go on. Where the input has ended, the last line is answered.
@@ -150,7 +149,8 @@ fn run(book: &mut [u8]) -> Went {
         p = t.pending;
         let w = t.went;
         let Went::On = w else {
-            return ending(book, p, w);
+            let put = ending(book, p, w);
+            return put.went;
         };
         turns -= 1;
     }

@@ -5,9 +5,9 @@
 --   failed, moved  a call that failed, and one that moved bytes
 --   not-on         a run that the code found not to go on does not
 --   untold         a write that ends the run leaves bytes unwritten
---   follows        a run that ends as its read did
+--   prints, stands a run that goes by what it prints, and one that goes as it had
 --   ends           a run whose input has not ended ends as it went, and leaves the book alone
---   ends-last      one whose input has ended leaves the book that its last line leaves
+--   ends-last      one whose input has ended leaves the book that its last line leaves, and ends by how that is written
 use Prim.Native.Nat.{ℕ, zero, suc, _<_}
 use mathlib.Core.Path.{_≡_, refl, sym, ap, _∙_, subst}
 use mathlib.Core.Bool.{Bool, true, false, true≢false, _||_}
@@ -27,7 +27,7 @@ use Rattle.text.specs.Stream.{State, lastBook}
 use Rattle.answering.specs.Answering.{answering}
 use Rattle.ends.specs.declared.Went.{Went}
 use Rattle.ends.specs.declared.Went.the-variants.{On, Ended, Gone, Unread, Unwritten}
-use Rattle.ends.specs.Ends.{failureWent, callWent, writeWent, Told, Follows, endBook, Ends}
+use Rattle.ends.specs.Ends.{failureWent, callWent, writeWent, Told, Goes, endBook}
 use Rattle.ends.proofs.Went.{the-type}
 
 pub read-back : (w : Width) (z : ℤ) → SFits w z → (n : ℕ) → ofZ w z ≡ n → z ≡ toZ w n
@@ -110,19 +110,29 @@ untold got e w h k n l = go w (subst Writes (sym h) (writes got e)) k
     go Unread s k = s
     go Unwritten s k = l
 
-pub follows : (w : Went) → Follows w w
-follows On = tt
-follows Ended = refl
-follows Gone = refl
-follows Unread = refl
-follows Unwritten = refl
+pub prints : (u v w : Went) (n : ℕ) → v ≡ u → Told w n → Goes u v w n
+prints u v w n e t = (λ _. t, λ ne. absurd (ne e))
 
-pub ends : (w : Went) → OneOf (0 ∷ 2 ∷ 3 ∷ 4 ∷ []) (tagOf the-type w) → (s : State) → (s .book ≡ endBook w s) × Ends w w
-ends On k s = (refl, refl)
-ends Ended k s = absurd (miss (0 ∷ 2 ∷ 3 ∷ 4 ∷ []) 1 tt k)
-ends Gone k s = (refl, refl)
-ends Unread k s = (refl, refl)
-ends Unwritten k s = (refl, refl)
+pub stands : (u v : Went) → (v ≡ u → ⊥) → Goes u v v 0
+stands u v ne = (λ e. absurd (ne e), λ _. (refl, refl))
 
-pub ends-last : (w v : Went) → w ≡ Ended → (s : State) → (lastBook answering s ≡ endBook w s) × Ends w v
-ends-last w v e s = rw e (refl, tt)
+-- the tags of all but `Ended`
+abbrev unended : List ℕ
+unended = 0 ∷ 2 ∷ 3 ∷ 4 ∷ []
+
+not-ended : (w : Went) → OneOf unended (tagOf the-type w) → w ≡ Ended → ⊥
+not-ended w k e = miss unended 1 tt (subst (λ (v : Went). OneOf unended (tagOf the-type v)) e k)
+
+pub ends : (w : Went) → OneOf unended (tagOf the-type w) → (s : State) → (s .book ≡ endBook w s) × Goes Ended w w 0
+ends w k s = (go w k, stands Ended w (not-ended w k))
+  where
+    go : (w : Went) → OneOf unended (tagOf the-type w) → s .book ≡ endBook w s
+    go On k = refl
+    go Ended k = absurd (not-ended Ended k refl)
+    go Gone k = refl
+    go Unread k = refl
+    go Unwritten k = refl
+
+pub ends-last
+    : (w v : Went) (n : ℕ) → w ≡ Ended → Told v n → (s : State) → (lastBook answering s ≡ endBook w s) × Goes Ended w v n
+ends-last w v n e t s = (rw e refl, prints Ended w v n e t)

@@ -6,9 +6,9 @@
 --   readWent got e      the same of a read: no byte is the end of the input
 --   writeWent got e     the same of a write, which moves a byte or fails
 --   Told w n            the run went w where n bytes of what it prints are not written: it goes on only where there are none
---   Follows v w         the run went w where its read went v: it goes on only where the read did, and else ends as the read did
+--   Goes u v w n        the run had gone v, and goes w with n bytes unwritten: where v is u, what that prints is told; else it goes as it
+--                       had, and prints nothing
 --   endBook w s         the book at the end of a run that went w, from the state s on: only the end of the input answers a begun line
---   Ends v w            the run ends with w where it went v: as it went, unless the last line is still to be written
 --   wordOf w            what the program says on standard error at its end, before the system's reason; no word where it is quiet
 use Prim.Native.Nat.{ℕ, zero, suc, _<_}
 use mathlib.Core.Path.{_≡_}
@@ -45,12 +45,8 @@ Told Gone n = 0 < n
 Told Unread n = ⊥
 Told Unwritten n = 0 < n
 
-abbrev pub Follows : Went → Went → Type 0
-Follows On w = Unit
-Follows Ended w = w ≡ Ended
-Follows Gone w = w ≡ Gone
-Follows Unread w = w ≡ Unread
-Follows Unwritten w = w ≡ Unwritten
+abbrev pub Goes : Went → Went → Went → ℕ → Type 0
+Goes u v w n = (v ≡ u → Told w n) × ((v ≡ u → ⊥) → (w ≡ v) × (n ≡ 0))
 
 abbrev pub endBook : Went → State → List ℕ
 endBook On s = s .book
@@ -58,13 +54,6 @@ endBook Ended s = lastBook answering s
 endBook Gone s = s .book
 endBook Unread s = s .book
 endBook Unwritten s = s .book
-
-abbrev pub Ends : Went → Went → Type 0
-Ends On w = w ≡ On
-Ends Ended w = Unit
-Ends Gone w = w ≡ Gone
-Ends Unread w = w ≡ Unread
-Ends Unwritten w = w ≡ Unwritten
 
 abbrev pub wordOf : Went → List ℕ
 wordOf On = []

@@ -12,8 +12,9 @@ returns c = let a = c .before .before .args in ends (a .w) (c .match .keys2) (he
 returns-2 : tie.Need-returns-2
 returns-2 c =
     let k = c .before .before in
-    let l = ends-last _ (k .last-turn .result .went) (k .before .before .enum-told .given .1) _ in
-    (k .last-turn .ensures .0 ∙ l .0, l .1)
+    let e = k .last-turn .ensures in
+    let l = ends-last _ _ _ (k .before .before .enum-told .given .1) (e .1) _ in
+    (e .0 ∙ l .0, l .1)
 
 pub ending-spec : {M : Type 1} → statement M
 ending-spec = tie.close (tie.spec (λ c. search needs) returns (λ c κs. search needs) (λ c. search needs) returns-2)

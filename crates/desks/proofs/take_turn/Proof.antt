@@ -2,8 +2,9 @@
 use Rattle.io.specs.Counts.{clamped}
 use Rattle.listing.proofs.Listings.{feeds-none}
 use Rattle.ends.specs.declared.Went.{Went}
-use Rattle.ends.specs.Ends.{readWent, Told, Follows}
-use Rattle.ends.proofs.Reasons.{not-on, follows}
+use Rattle.ends.specs.declared.Went.the-variants.{On}
+use Rattle.ends.specs.Ends.{readWent, Goes}
+use Rattle.ends.proofs.Reasons.{not-on, prints, stands}
 use lib.ListN.{length}
 use mir.Syntax.{w32, w64}
 use mir.ValLaws.{toZ-ofZ}
@@ -29,22 +30,23 @@ counted
 counted c = rw (toZ-ofZ w64 _ (entry (called c) .fits .got)) at (c .count .ensures .1)
 
 returns : tie.Need-returns
-returns c = (
-  feeds-none _ _ _ (entry (c .before) .pre),
-  (subst (λ (v : Went). Follows v (c .before .read-went .result)) (read (c .before)) (follows (c .before .read-went .result)), λ e. absurd (not-on _ (c .match .keys2) e)),
-)
+returns c =
+    let w = c .before .read-went .result in
+    let off = not-on w (c .match .keys2) in (
+      feeds-none _ _ _ (entry (c .before) .pre),
+      (subst (λ (v : Went). Goes On v w 0) (read (c .before)) (stands On w off), λ e. absurd (off e)),
+    )
 
 returns-2 : tie.Need-returns-2
 returns-2 c =
     let k = c .before .before in
     let n = k .before .before .before in
     let went = n .before .enum-told .given .1 in
-    let told = k .answer-piece .ensures in
-    let r = k .answer-piece .result in (
+    let told = k .answer-piece .ensures in (
       rw (counted n) at (told .0),
       (
-        subst (λ (v : Went). Follows v (r .went)) (sym went ∙ read (called n)) tt,
-        λ e. (subst (λ (v : Went). Told v (r .left)) e (told .1 .0), told .1 .1 e ∙ sym (n .count .ensures .0 .1) ∙ counted n),
+        prints On _ _ _ (sym (read (called n)) ∙ went) (told .1 .0),
+        λ e. told .1 .1 e ∙ sym (n .count .ensures .0 .1) ∙ counted n,
       ),
     )
 
