@@ -169,8 +169,8 @@ module _ (s : List ℕ) (j p n : ℕ) (e : n ≡ numberOf s (receive j p)) (z : 
   unfolding done
   receive-stamps x row b b′ ex er eb eb′ =
       let g = receive-grows .at in
-      event-stamps s (receive j p) (sym e ∙ z) j (g .eight) (mergedRow s j p) (put (tablesOf s .mail) p none) (stamp j (mergedRow s j p)) refl
-      (cleared s (mailFrom + p))
+      event-stamps s (receive j p) (sym e ∙ z) j (g .eight) (mergedRow s j p) (put (tablesOf s .mail) p none)
+      (stamp j (mergedRow s j p)) refl (cleared s (mailFrom + p))
       (mail-put (setupOf s) (tablesOf s) s (decode-holds s (g .whole)) p receive-place none) row er
       (merged-eight s (ringOf (setupOf s)) j p (g .eight)) refl x b′ ex (eb′ ∙ ap (λ (y : List ℕ). post y j 1 0 row) eb)
 

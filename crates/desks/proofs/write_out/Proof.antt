@@ -49,5 +49,5 @@ write-out-spec =
     (tie.spec
     Inv-loop μ-loop loop-holds (λ c. omega arith) (λ c. omega arith) (λ c. omega arith) (λ c κs. search needs)
     (λ c κs. search needs) (λ c κs. search needs) (λ c. search needs) (λ c. omega arith) returns (λ c. omega arith) (λ c. omega arith)
-    (λ c. omega arith) (λ c κs. search needs) add-done (λ c. omega (arith, ltb-true)) (λ c. omega (arith, ltb-true)) loop-again (λ c. omega arith) returns-2
-    returns-3)
+    (λ c. omega arith) (λ c κs. search needs) add-done (λ c. omega (arith, ltb-true)) (λ c. omega (arith, ltb-true)) loop-again
+    (λ c. omega arith) returns-2 returns-3)
