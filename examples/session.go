@@ -1,4 +1,4 @@
-// The session of the listing, made from Go and printed as the listing prints it.
+// The session of examples/session.in, made from Go and printed as the listing prints it.
 package main
 
 /*
