@@ -33,7 +33,7 @@ use Rattle.rules.specs.Replies.{rowByte}
 use Rattle.book.specs.Layout.{headByte, mark0, mark1, markedByte, byteOf, layout, setupOf}
 use Rattle.book.specs.Codec.{encode}
 use Rattle.book.specs.Stamps.{writeStamp, pairReads, readOk, readStamp, filled}
-use Rattle.book.specs.Sound.{sound}
+use Rattle.book.specs.Sound.{soundBy, sound}
 use Rattle.book.specs.Answers.{admits, answerTo, beforeOf, compareOf}
 
 abbrev counted : ℕ → Row
@@ -128,7 +128,7 @@ record-numbers = refl
 -- on any bytes of that length, whatever they say
 module _ (s : List ℕ) where
   unsound : eqb (length s) 1456 ≡ false → sound s ≡ false
-  unfolding sound
+  unfolding soundBy
   unsound e = not-each _ 0 e
 
   other-length : eqb (length s) 1456 ≡ false → (c : Call) → answerTo s c .number ≡ 1

@@ -125,7 +125,7 @@ module _ (X : Setup) (ok : Permitted X) (b : Tables) (w : Fits X b) where
   reset-pair j B q l m f ne =
       let r = f .0 l in
       let s = r .lag in
-      let e = lag-next (X .phases) (phases b j) (q .phase) (r .phase) (omega arith) in
+      let e = lag-next (X .phases) (phases b j) (q .phase) (own-range j l .phase) (r .phase) (omega arith) in
       (λ d. record { phase = r .phase; clock = r .clock; lag = omega arith }, f .1)
 
   reset-row : (j B : ℕ) (r : Row) → j < X .desks → B < X .phases → RowFits X (phases b) B r

@@ -23,12 +23,12 @@ use Rattle.book.specs.Fits.{PairFits, RowFits, MailFits, SlotFits, Fits}
 use Rattle.book.specs.Layout.{tagASpot, tagBSpot, bookSize, records, shelfFrom, mailFrom}
 use Rattle.book.specs.Layout.{Record, Fields, fields, setupOf, rowAt, spot, mark0, mark1, headByte, markedByte, Holds}
 use Rattle.book.specs.Sound.{pairOk, columnOk, rowOk, columnZero, rowZero, seatRest, seatNear, seatOk, mailOk, slotOk, recordOk}
-use Rattle.book.specs.Sound.{spareZero, headOk, recordSound, sound}
+use Rattle.book.specs.Sound.{spareZero, headOk, recordSound, soundBy, sound}
 use Rattle.book.specs.Codec.{tagBy, tagTo, writeMail, writeSlot, recordOf, write}
 use Rattle.book.proofs.Bytes.{setup-is, tagA-is, tagB-is, pair-is}
 use Rattle.book.proofs.Codec.{record-seat, record-mail, record-slot, by-kind}
 
-pair-ok : (X : Setup) (B o j : ℕ) (q : Pair) → PairFits X o B j q → pairOk X B o j q ≡ true
+pair-ok : (X : Setup) (B o j : ℕ) (q : Pair) → PairFits X o B j q → pairOk lagOf X B o j q ≡ true
 unfolding pairOk allOf
 pair-ok X B o j q f =
     ⊎-elim (λ (l : j < X .desks).
@@ -64,10 +64,11 @@ module _ (X : Setup) (p : permits X ≡ true) (t : Tables) (w : Fits X t) (b : L
       ap (λ (q : Pair). q .phase) (pair-is F b h j j (omega arith) l)
       ∙ ap (λ (r : Record). r .row j .phase) (record-seat t j l)
 
-  row-ok : (B C k : ℕ) → B ≡ C → k < records → (r : Row) → recordOf t k .row ≡ r → RowFits X (phases t) C r → rowOk (fields b) B k ≡ true
+  row-ok : (B C k : ℕ) → B ≡ C → k < records → (r : Row) → recordOf t k .row ≡ r → RowFits X (phases t) C r
+      → rowOk lagOf (fields b) B k ≡ true
   unfolding rowOk columnOk
   row-ok B C k same lk r e f =
-      all-in (columnOk (fields b) B k) 8
+      all-in (columnOk lagOf (fields b) B k) 8
       (λ j l.
       rw (columnOk, setup-told, own-told j l, pair-is F b h k j lk l ∙ ap (λ (ρ : Row). ρ j) e, same)
       (pair-ok X C (phases t j) j (r j) (f j)))
@@ -81,7 +82,7 @@ module _ (X : Setup) (p : permits X ≡ true) (t : Tables) (w : Fits X t) (b : L
       rw (columnZero, ap (λ (x : Pair). x .phase) q, ap (λ (x : Pair). x .clock) q))
 
   -- each kind of record
-  seat-ok : (j : ℕ) → j < 8 → seatOk (fields b) j ≡ true
+  seat-ok : (j : ℕ) → j < 8 → seatOk lagOf (fields b) j ≡ true
   unfolding seatOk seatRest seatNear allOf
   seat-ok j l = rw (seatOk, tag, filler, rest, near)
     where
@@ -113,21 +114,21 @@ module _ (X : Setup) (p : permits X ≡ true) (t : Tables) (w : Fits X t) (b : L
           go true e = rw (seatRest, has, e) (desk e)
           go false e = rw (seatRest, has, e) (zero-ok j (omega arith) (row ∙ w .unstarted j e))
 
-      near : seatNear (fields b) j ≡ true
+      near : seatNear lagOf (fields b) j ≡ true
       near =
           ⊎-elim (λ (m : j < X .desks).
           rw (seatNear, lt-ltb j (byte b 2) (omega (arith, m, desks-told)))
           (row-ok (byte b 5) (X .seatLag) j seat-lag-told (omega arith) (t .seat j .row) row (w .seats j m)))
           (λ (m : X .desks ≤ j). rw (seatNear, le-ltb j (byte b 2) (omega (arith, m, desks-told)))) (lt-or-le j (X .desks))
 
-  mail-ok : (q : ℕ) → q < 32 → mailOk (fields b) (mailFrom + q) ≡ true
+  mail-ok : (q : ℕ) → q < 32 → mailOk lagOf (fields b) (mailFrom + q) ≡ true
   unfolding mailOk allOf
   mail-ok q l = go (t .mail q) refl (w .mail q)
     where
       kept : recordOf t (mailFrom + q) ≡ writeMail (t .mail q)
       kept = record-mail t q l
 
-      go : (o : Option Held) → t .mail q ≡ o → Each (MailFits X (phases t) q) o → mailOk (fields b) (mailFrom + q) ≡ true
+      go : (o : Option Held) → t .mail q ≡ o → Each (MailFits X (phases t) q) o → mailOk lagOf (fields b) (mailFrom + q) ≡ true
       go none e f =
           let a : byte b (spot (mailFrom + q) tagASpot) ≡ 0 = tagA-is F b h (mailFrom + q) (omega arith)
           ∙ ap (λ (r : Record). r .tagA) kept ∙ ap tagBy e in
@@ -155,7 +156,7 @@ module _ (X : Setup) (p : permits X ≡ true) (t : Tables) (w : Fits X t) (b : L
                 (ap (λ (r : Record). r .row) kept ∙ ap rowIn e) (f .row),
           )
 
-  slot-ok : (q : ℕ) → q < 32 → slotOk (fields b) (shelfFrom + q) ≡ true
+  slot-ok : (q : ℕ) → q < 32 → slotOk lagOf (fields b) (shelfFrom + q) ≡ true
   unfolding slotOk allOf
   slot-ok q l = go (t .shelf q) refl (w .shelf q)
     where
@@ -165,7 +166,7 @@ module _ (X : Setup) (p : permits X ≡ true) (t : Tables) (w : Fits X t) (b : L
       filler : byte b (spot (shelfFrom + q) tagBSpot) ≡ 0
       filler = tagB-is F b h (shelfFrom + q) (omega arith) ∙ ap (λ (r : Record). r .tagB) kept
 
-      go : (o : Option Held) → t .shelf q ≡ o → Each (SlotFits X (phases t) q) o → slotOk (fields b) (shelfFrom + q) ≡ true
+      go : (o : Option Held) → t .shelf q ≡ o → Each (SlotFits X (phases t) q) o → slotOk lagOf (fields b) (shelfFrom + q) ≡ true
       go none e f =
           let a : byte b (spot (shelfFrom + q) tagASpot) ≡ 0 = tagA-is F b h (shelfFrom + q) (omega arith)
           ∙ ap (λ (r : Record). r .tagA) kept ∙ ap tagBy e in
@@ -185,14 +186,14 @@ module _ (X : Setup) (p : permits X ≡ true) (t : Tables) (w : Fits X t) (b : L
                 (f .row),
           )
 
-  record-ok : (k : ℕ) → k < records → recordOk (fields b) k ≡ true
+  record-ok : (k : ℕ) → k < records → recordOk lagOf (fields b) k ≡ true
   unfolding recordOk
   record-ok =
-      by-kind (λ k. recordOk (fields b) k ≡ true) (λ j l. rw (recordOk, lt-ltb j 8 l) (seat-ok j l))
+      by-kind (λ k. recordOk lagOf (fields b) k ≡ true) (λ j l. rw (recordOk, lt-ltb j 8 l) (seat-ok j l))
       (λ q l. rw (recordOk, le-ltb (mailFrom + q) 8 (omega arith), lt-ltb (mailFrom + q) shelfFrom (omega arith)) (mail-ok q l))
       (λ q l. rw (recordOk, le-ltb (shelfFrom + q) 8 (omega arith), le-ltb (shelfFrom + q) shelfFrom (omega arith)) (slot-ok q l))
 
-  record-sound : (k : ℕ) → k < records → recordSound b k ≡ true
+  record-sound : (k : ℕ) → k < records → recordSound lagOf b k ≡ true
   unfolding recordSound markedByte allOf
   record-sound k l =
       rw (
@@ -225,6 +226,12 @@ module _ (X : Setup) (p : permits X ≡ true) (t : Tables) (w : Fits X t) (b : L
       )
 
   pub holds-sound : sound b ≡ true
-  unfolding sound allOf
+  unfolding soundBy allOf
   holds-sound =
-      rw (sound, eq-eqb (length b) bookSize (h .size), head-ok, ap permits setup-told ∙ p, all-in (recordSound b) records record-sound)
+      rw (
+        soundBy,
+        eq-eqb (length b) bookSize (h .size),
+        head-ok,
+        ap permits setup-told ∙ p,
+        all-in (recordSound lagOf b) records record-sound,
+      )

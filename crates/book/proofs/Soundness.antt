@@ -23,28 +23,28 @@ use Rattle.rules.proofs.Setups.{permitted}
 use Rattle.book.specs.Layout.{tagASpot, tagBSpot, bookSize, records, shelfFrom, mailFrom, seats}
 use Rattle.book.specs.Layout.{Fields, fields, setupOf, spot, mark0, mark1, headByte, Holds}
 use Rattle.book.specs.Sound.{pairOk, columnOk, rowOk, columnZero, rowZero, seatRest, seatNear, seatOk, mailOk, slotOk, recordOk}
-use Rattle.book.specs.Sound.{spareZero, headOk, recordSound, sound}
+use Rattle.book.specs.Sound.{spareZero, headOk, recordSound, soundBy, sound}
 use Rattle.book.specs.Codec.{readRow, readSeat, readHeld, read}
 use Rattle.book.proofs.Bytes.{record-bytes, row-at}
 
 module _ (b : List ℕ) (s : sound b ≡ true) where
   pub sound-size : length b ≡ bookSize
-  unfolding sound
+  unfolding soundBy
   sound-size = eqb-true _ _ (each _ s 0)
 
   sound-head : headOk b ≡ true
-  unfolding sound
+  unfolding soundBy
   sound-head = each _ s 1
 
   pub sound-setup : permits (setupOf b) ≡ true
-  unfolding sound
+  unfolding soundBy
   sound-setup = each _ s 2
 
-  sound-each : (k : ℕ) → k < records → recordSound b k ≡ true
-  unfolding sound
-  sound-each k l = all-at (recordSound b) records k l (each _ s 3)
+  sound-each : (k : ℕ) → k < records → recordSound lagOf b k ≡ true
+  unfolding soundBy
+  sound-each k l = all-at (recordSound lagOf b) records k l (each _ s 3)
 
-  pub sound-record : (k : ℕ) → k < records → recordOk (fields b) k ≡ true
+  pub sound-record : (k : ℕ) → k < records → recordOk lagOf (fields b) k ≡ true
   unfolding recordSound
   sound-record k l = each _ (sound-each k l) 2
 
@@ -83,7 +83,7 @@ sound-holds b s =
     }
 
 -- a pair that is in order fits
-pub pair-fits : (X : Setup) (B o j : ℕ) (q : Pair) → pairOk X B o j q ≡ true → PairFits X o B j q
+pub pair-fits : (X : Setup) (B o j : ℕ) (q : Pair) → pairOk lagOf X B o j q ≡ true → PairFits X o B j q
 unfolding pairOk
 pair-fits X B o j q h = go (ltb j (X .desks)) refl h
   where
@@ -103,7 +103,7 @@ pair-fits X B o j q h = go (ltb j (X .desks)) refl h
         )
 
 module _ (f : Fields) (few : f .setup .desks ≤ 8) where
-  row-fits : (B k : ℕ) → rowOk f B k ≡ true → RowFits (f .setup) (phases (read f)) B (readRow (f .at k .row))
+  row-fits : (B k : ℕ) → rowOk lagOf f B k ≡ true → RowFits (f .setup) (phases (read f)) B (readRow (f .at k .row))
   unfolding rowOk columnOk
   row-fits B k h j = go (ltb j 8) refl
     where
@@ -111,7 +111,7 @@ module _ (f : Fields) (few : f .setup .desks ≤ 8) where
           → PairFits (f .setup) ((pick t (readSeat (f .at j)) idle) .row j .phase) B j (pick t (f .at k .row j) (zeros j))
       go true e =
           rw e (pair-fits (f .setup) B (f .at j .row j .phase) j (f .at k .row j)
-          (all-at (columnOk f B k) 8 j (ltb-true j 8 e) h))
+          (all-at (columnOk lagOf f B k) 8 j (ltb-true j 8 e) h))
       go false e = let l = ltb-false j 8 e in (λ m. absurd (omega arith), λ m. refl)
 
   row-zero : (k : ℕ) → rowZero f k ≡ true → readRow (f .at k .row) ≡ zeros
@@ -153,7 +153,7 @@ pub record SlotSound (f : Fields) (k : ℕ) : Type 0 where
   pub row : (f .at k .tagA ≡ 0 → ⊥) → RowFits (f .setup) (phases (read f)) (f .setup .shelfLag) (readRow (f .at k .row))
 
 module _ (f : Fields) (few : f .setup .desks ≤ 8) (k : ℕ) where
-  pub seat-sound : seatOk f k ≡ true → SeatSound f k
+  pub seat-sound : seatOk lagOf f k ≡ true → SeatSound f k
   unfolding seatOk seatRest seatNear
   seat-sound h =
       record {
@@ -164,7 +164,7 @@ module _ (f : Fields) (few : f .setup .desks ≤ 8) (k : ℕ) where
         row = λ l. row-fits f few (f .setup .seatLag) k (rw (seatNear, lt-ltb k (f .setup .desks) l) at (each _ h 3));
       }
 
-  pub mail-sound : mailOk f k ≡ true → MailSound f k
+  pub mail-sound : mailOk lagOf f k ≡ true → MailSound f k
   unfolding mailOk
   mail-sound h = go (eqb (f .at k .tagA) 0) refl h
     where
@@ -175,7 +175,7 @@ module _ (f : Fields) (few : f .setup .desks ≤ 8) (k : ℕ) where
           ∷ leb 1 (f .at k .tagB)
           ∷ leb (f .at k .tagB) (f .setup .desks)
           ∷ not (eqb (f .at k .tagA) (f .at k .tagB))
-          ∷ rowOk f (2 * f .setup .seatLag) k
+          ∷ rowOk lagOf f (2 * f .setup .seatLag) k
           ∷ [])) ≡ true
           → MailSound f k
       go true e p =
@@ -198,13 +198,13 @@ module _ (f : Fields) (few : f .setup .desks ≤ 8) (k : ℕ) where
             row = λ n. row-fits f few (2 * f .setup .seatLag) k (each _ p 4);
           }
 
-  pub slot-sound : slotOk f k ≡ true → SlotSound f k
+  pub slot-sound : slotOk lagOf f k ≡ true → SlotSound f k
   unfolding slotOk
   slot-sound h = go (eqb (f .at k .tagA) 0) refl h
     where
       go : (t : Bool) → eqb (f .at k .tagA) 0 ≡ t
           → pick t (allOf (eqb (f .at k .tagB) 0 ∷ rowZero f k ∷ []))
-          (allOf (eqb (f .at k .tagB) 0 ∷ leb (f .at k .tagA) (f .setup .desks) ∷ rowOk f (f .setup .shelfLag) k ∷ [])) ≡ true
+          (allOf (eqb (f .at k .tagB) 0 ∷ leb (f .at k .tagA) (f .setup .desks) ∷ rowOk lagOf f (f .setup .shelfLag) k ∷ [])) ≡ true
           → SlotSound f k
       go true e p =
           let z : f .at k .tagA ≡ 0 = eqb-true _ _ e in

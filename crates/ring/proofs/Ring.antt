@@ -3,51 +3,72 @@
 use mathlib.Core.Path.{_≡_, refl, ap, sym, _∙_}
 use mathlib.Core.Bool.{Bool, true, false, _&&_}
 use mathlib.Core.Logic.{_⊎_, inl, inr}
+use mathlib.Core.List.{[], _∷_, map}
 use Prim.Native.Nat.{ℕ, _+_, _-_, _%_, _≤_, _<_}
 use native.Mathlib.Omega.{arith}
 use native.Mathlib.Nat.{mod-lt, mod-eq-of-lt, mod-add-mod, add-mod-right, mod-eq-sub-mod, mod-self}
 use native.Mathlib.Decide.{decLt}
 use lib.Dec.{ltb, eqb}
-use borrow.Author.Tests.{eqb-true, eq-eqb, ltb-true, ltb-false, lt-ltb, le-ltb}
+use borrow.Author.Tests.{eqb-true, eq-eqb, ltb-true, ltb-false, lt-ltb, le-ltb, le-leb, lt-leb}
 use Rattle.tools.proofs.Tests.{and-true-l, or-false-l}
 use Rattle.ring.specs.Phases.{Pair, Phases, Gap, ring, lagOf, nextOf, laterBy, lagGap, isLater, later}
+use Rattle.ring.specs.Remainder.{remainderOf}
 
-pub lag-below : (P own v : ℕ) → 0 < P → lagOf P own v < P
-lag-below P own v h = mod-lt (own + P - v) h
+-- by hand, on a ring of five: how far each phase lags behind 1
+pub lag-worked : map (lagOf 5 1) (0 ∷ 1 ∷ 2 ∷ 3 ∷ 4 ∷ []) ≡ 1 ∷ 0 ∷ 4 ∷ 3 ∷ 2 ∷ []
+lag-worked = refl
+
+-- the two lines
+pub lag-down : (P own v : ℕ) → v ≤ own → lagOf P own v ≡ own - v
+lag-down P own v l = rw (le-leb v own l)
+
+pub lag-round : (P own v : ℕ) → own < v → lagOf P own v ≡ own + P - v
+lag-round P own v l = rw (lt-leb v own l)
+
+-- WHICH IS RIGHT? Both: of phases of the ring the handbook's lag is the remainder.
+pub lag-remainder : (P own v : ℕ) → own < P → v < P → lagOf P own v ≡ remainderOf P own v
+lag-remainder P own v ho hv = go (decLt own v)
+  where
+    go : Dec (own < v) → lagOf P own v ≡ remainderOf P own v
+    go (no l) =
+        let e : own + P - v ≡ own - v + P = omega arith in
+        lag-down P own v (omega arith) ∙ sym (ap (λ n. n % P) e ∙ add-mod-right (own - v) P ∙ mod-eq-of-lt (omega arith))
+    go (yes l) = lag-round P own v l ∙ sym (mod-eq-of-lt (omega arith))
+
+-- off the ring they differ
+pub lag-elsewhere : (lagOf 5 7 1 ≡ 6) × (remainderOf 5 7 1 ≡ 1)
+lag-elsewhere = (refl, refl)
+
+pub lag-below : (P own v : ℕ) → own < P → lagOf P own v < P
+lag-below P own v ho = go (decLt own v)
+  where
+    go : Dec (own < v) → lagOf P own v < P
+    go (no l) = rw (lag-down P own v (omega arith)) (omega arith)
+    go (yes l) = rw (lag-round P own v l) (omega arith)
 
 pub next-below : (P v : ℕ) → 0 < P → nextOf P v < P
 next-below P v h = mod-lt (v + 1) h
 
 -- a phase does not lag behind itself
 pub lag-self : (P v : ℕ) → lagOf P v v ≡ 0
-lag-self P v =
-    let e : v + P - v ≡ P = omega arith in
-    ap (λ n. n % P) e ∙ mod-self P
-
--- the remainder by a compare, of two phases on the ring
-pub lag-down : (P own v : ℕ) → v ≤ own → own < P → lagOf P own v ≡ own - v
-lag-down P own v l h =
-    let e : own + P - v ≡ own - v + P = omega arith in
-    ap (λ n. n % P) e ∙ add-mod-right (own - v) P ∙ mod-eq-of-lt (omega arith)
-
-pub lag-round : (P own v : ℕ) → own < v → v < P → lagOf P own v ≡ own + P - v
-lag-round P own v l h = mod-eq-of-lt (omega arith)
+lag-self P v = lag-down P v v (omega arith) ∙ omega arith
 
 -- every other phase lags
 pub lag-other : (P own v : ℕ) → own < P → v < P → (v ≡ own → ⊥) → 0 < lagOf P own v
 lag-other P own v ho hv ne = go (decLt own v)
   where
     go : Dec (own < v) → 0 < lagOf P own v
-    go (no l) = rw (lag-down P own v (omega arith) ho) (omega arith)
-    go (yes l) = rw (lag-round P own v l hv) (omega arith)
+    go (no l) = rw (lag-down P own v (omega arith)) (omega arith)
+    go (yes l) = rw (lag-round P own v l) (omega arith)
 
 -- a reset makes every lag grow by one
-pub lag-next : (P own v : ℕ) → v < P → lagOf P own v + 1 < P → lagOf P (nextOf P own) v ≡ lagOf P own v + 1
-lag-next P own v l h =
+pub lag-next : (P own v : ℕ) → own < P → v < P → lagOf P own v + 1 < P → lagOf P (nextOf P own) v ≡ lagOf P own v + 1
+lag-next P own v ho hv h =
     let e : nextOf P own + P - v ≡ nextOf P own + (P - v) = omega arith in
     let f : own + 1 + (P - v) ≡ own + P - v + 1 = omega arith in
-    ap (λ n. n % P) e ∙ mod-add-mod (own + 1) P (P - v) ∙ ap (λ n. n % P) f ∙ sym (mod-add-mod (own + P - v) P 1)
-    ∙ mod-eq-of-lt h
+    lag-remainder P (nextOf P own) v (next-below P own (omega arith)) hv
+    ∙ ap (λ n. n % P) e ∙ mod-add-mod (own + 1) P (P - v) ∙ ap (λ n. n % P) f ∙ sym (mod-add-mod (own + P - v) P 1)
+    ∙ ap (λ n. (n + 1) % P) (sym (lag-remainder P own v ho hv)) ∙ mod-eq-of-lt h
 
 -- (x + d) mod P for a remainder x and a d below P
 split : (P x d : ℕ) → x < P → d < P → ((x + d < P) × ((x + d) % P ≡ x + d)) ⊎ ((P ≤ x + d) × ((x + d) % P ≡ x + d - P))
@@ -72,7 +93,8 @@ ahead-at P x d o hx hd e = go (split P x d hx hd)
 
 pub ring-lag : (P o v : ℕ) → v ≤ o → o - v < P → lagOf P (o % P) (v % P) ≡ o - v
 ring-lag P o v h l =
-    ahead-at P (v % P) (o - v) (o % P) (mod-lt v (omega arith)) l
+    lag-remainder P (o % P) (v % P) (mod-lt o (omega arith)) (mod-lt v (omega arith))
+    ∙ ahead-at P (v % P) (o - v) (o % P) (mod-lt v (omega arith)) l
     (ap (λ n. n % P) e ∙ sym (mod-add-mod v P (o - v)))
   where
     e : o ≡ v + (o - v)
@@ -84,7 +106,8 @@ ring-next P v = mod-add-mod v P 1
 -- the same difference taken the other way
 pub ring-back : (P o v : ℕ) → v < o → o - v < P → lagOf P (v % P) (o % P) ≡ P - (o - v)
 ring-back P o v h l =
-    ahead-at P (o % P) (P - (o - v)) (v % P) (mod-lt o (omega arith)) (omega arith)
+    lag-remainder P (v % P) (o % P) (mod-lt v (omega arith)) (mod-lt o (omega arith))
+    ∙ ahead-at P (o % P) (P - (o - v)) (v % P) (mod-lt o (omega arith)) (omega arith)
     (sym (mod-add-mod o P (P - (o - v)) ∙ ap (λ n. n % P) e ∙ add-mod-right v P))
   where
     e : o + (P - (o - v)) ≡ v + P
@@ -97,10 +120,10 @@ turn-lag P t own v ho hv = go (decLt own v)
     go : Dec (own < v) → lagOf P ((own + t) % P) ((v + t) % P) ≡ lagOf P own v
     go (no l) =
         let e : own + t - (v + t) ≡ own - v = omega arith in
-        ring-lag P (own + t) (v + t) (omega arith) (omega arith) ∙ e ∙ sym (lag-down P own v (omega arith) ho)
+        ring-lag P (own + t) (v + t) (omega arith) (omega arith) ∙ e ∙ sym (lag-down P own v (omega arith))
     go (yes l) =
         let e : P - (v + t - (own + t)) ≡ own + P - v = omega arith in
-        ring-back P (v + t) (own + t) (omega arith) (omega arith) ∙ e ∙ sym (lag-round P own v l hv)
+        ring-back P (v + t) (own + t) (omega arith) (omega arith) ∙ e ∙ sym (lag-round P own v l)
 
 pub turn-next : (P t v : ℕ) → nextOf P ((v + t) % P) ≡ (nextOf P v + t) % P
 turn-next P t v =

@@ -1,6 +1,7 @@
 -- The arithmetic of phases: on a ring of P, and on a line, where phases never come round.
 -- Assumes nothing. In words: docs/RULES.md, "Phases".
 --   Pair               a phase and a clock
+--   Lag                a way to take a lag: of P, the own phase and a phase
 --   lagOf P own v      how far the phase v lags behind the phase own, on a ring of P
 --   nextOf P v         the phase after v, on a ring of P
 --   Phases             an arithmetic of phases: a lag and a next
@@ -12,15 +13,22 @@
 --   later Z own e f    the later of the two, e unless f is later
 use mathlib.Core.Bool.{Bool, _&&_, _||_}
 use Prim.Native.Nat.{ℕ, _+_, _-_, _%_}
-use lib.Dec.{ltb, eqb}
+use lib.Dec.{leb, ltb, eqb}
 use Rattle.tools.specs.Tests.{pick}
 
 pub record Pair : Type 0 where
   pub phase : ℕ
   pub clock : ℕ
 
-abbrev pub lagOf : ℕ → ℕ → ℕ → ℕ
-lagOf P own v = (own + P - v) % P
+abbrev pub Lag : Type 0
+Lag = ℕ → ℕ → ℕ → ℕ
+
+-- own phase at least v: subtract; otherwise add P first
+abbrev pub lagOf : Lag
+lagOf P own v =
+    pick (leb v own)
+    (own - v)
+    (own + P - v)
 
 abbrev pub nextOf : ℕ → ℕ → ℕ
 nextOf P v = (v + 1) % P

@@ -28,7 +28,7 @@ use Rattle.rules.specs.Setups.{permits}
 use Rattle.rules.specs.Numbers.{BadSetup, BadStamp, OutOfReach, given}
 use Rattle.rules.specs.Model.{Row, Label, Value, says, relates, Answer, refusal, accepted, zeros, isOut, gapIn, isBefore, relation}
 
--- r is (phase in f minus phase in e) modulo P: d is r if r <= n-1, else r-P if P-r <= m-1
+-- r is how far the phase in e lags behind the phase in f: d is r if r <= n-1, else r-P if P-r <= m-1
 abbrev pub gapOff : Setup → ℕ → Row → Row → Option Gap
 gapOff X j e f =
     let r = lagOf (X .phases) (f j .phase) (e j .phase) in

@@ -9,7 +9,7 @@ ghost use Rattle.tools.specs.Tests.{pick, allOf, allBelow};
 ghost use Rattle.book.specs.Layout.{bookSize, spareSize, records, shelfFrom, mailFrom, seats, fields};
 ghost use Rattle.book.specs.Sound;
 ghost use Rattle.book.specs.Sound.{columnZero, rowOk, rowZero, seatRest, seatNear, recordOk, spareZero, headOk, recordSound};
-ghost use Rattle.soundness.specs.Checks.{countOf, Limits, ownOk, Ready, Used};
+ghost use Rattle.soundness.specs.Checks.{Limits, Ready, Used};
 
 // What the pairs of the desks are held to stands in one array, desk by desk in each of its three parts: first how many phases
 // each desk has.
@@ -21,16 +21,17 @@ const OWN: usize = parts::SEATS;
 // Then how many clock values each has.
 const CLOCKS: usize = 2 * parts::SEATS;
 
-// How many phases, or clock values, a desk has where each has that count. Where there is no desk 0 alone is in range, so one.
-fn count_of(desks: usize, count: u8, desk: usize) -> u8
-    ensures { λ r. ⌜ r ≡ countOf desks count desk ⌝ }
+// A number of a desk; where there is no such desk, the one that stands for it.
+fn of_desk(desks: usize, desk: usize, number: u8, none: u8) -> u8
+    ensures { λ r. ⌜ r ≡ pick (ltb desk desks) number none ⌝ }
 {
     if desk < desks {
-        return count;
+        return number;
     }
-    1
+    none
 }
 
+// Where there is no desk 0 alone is in range, and does not lag.
 fn limits_of(book: &[u8]) -> [u8; 24]
     requires { ⌜ length (now book) ≡ bookSize ⌝ }
     ensures { λ r. ⌜ Limits (now (book .entry)) seats r ⌝ }
@@ -39,40 +40,27 @@ fn limits_of(book: &[u8]) -> [u8; 24]
     let mut limits = [0u8; 24];
     let mut j: usize = 0;
     while j < parts::SEATS {
-        limits[PHASES + j] = count_of(d, book[parts::PHASES_AT], j);
-        limits[OWN + j] = parts::phase_at(book, j, j);
-        limits[CLOCKS + j] = count_of(d, book[parts::CLOCKS_AT], j);
+        limits[PHASES + j] = of_desk(d, j, book[parts::PHASES_AT], 1);
+        limits[OWN + j] = of_desk(d, j, parts::phase_at(book, j, j), 0);
+        limits[CLOCKS + j] = of_desk(d, j, book[parts::CLOCKS_AT], 1);
         j += 1;
     }
     limits
 }
 
-// Whether each own phase is a phase of the ring. Where one is not, its seat is not sound; where all are, a compare does for the remainder.
-fn own_ok(limits: &[u8; 24]) -> bool
-    ensures { λ r. ⌜ r ≡ ownOk (now (limits .entry)) ⌝ }
-{
-    let mut ok = true;
-    let mut j: usize = 0;
-    while j < parts::SEATS {
-        ok = ok & (limits[OWN + j] < limits[PHASES + j]);
-        j += 1;
-    }
-    ok
-}
-
-// By how much own is moved on, so that it does not stand below the phase: not at all, or once round the ring.
+// What is added to own before the phase is subtracted: nothing where own is at least the phase, otherwise the ring's phases.
 fn lap(own: u8, phase: u8, phases: u8) -> u8
     ensures { λ r. ⌜ r ≡ pick (leb phase own) 0 phases ⌝ }
 {
-    if phase <= own {
+    if own >= phase {
         return 0;
     }
     phases
 }
 
-// The lag is compared as a sum on both sides: no remainder, no difference that could wrap, no branch.
+// The lag's two lines, with the phase added to the bound and not subtracted: no difference that could wrap, no branch.
 fn pair_ok(own: u8, phases: u8, clocks: u8, bound: usize, phase: u8, clock: u8) -> bool
-    requires { ⌜ (own < phases) × (bound ≤ 510) ⌝ }
+    requires { ⌜ bound ≤ 510 ⌝ }
     ensures { λ r. ⌜ r ≡ allOf (ltb phase phases ∷ ltb clock clocks ∷ leb (lagOf phases own phase) bound ∷ []) ⌝ }
 {
     let moved = tools::wide(own) + tools::wide(lap(own, phase, phases));
@@ -83,7 +71,7 @@ fn pair_ok(own: u8, phases: u8, clocks: u8, bound: usize, phase: u8, clock: u8) 
 fn row_ok(book: &[u8], limits: &[u8; 24], bound: usize, k: usize) -> bool
     requires { ⌜ Ready (now book) (now limits) ⌝ }
     requires { ⌜ (k < records) × (bound ≤ 510) ⌝ }
-    ensures { λ r. ⌜ r ≡ rowOk (fields (now (book .entry))) bound k ⌝ }
+    ensures { λ r. ⌜ r ≡ rowOk lagOf (fields (now (book .entry))) bound k ⌝ }
 {
     let mut ok = true;
     let mut j: usize = 0;
@@ -141,7 +129,7 @@ fn seat_rest(book: &[u8], k: usize) -> bool
 fn seat_near(book: &[u8], limits: &[u8; 24], k: usize) -> bool
     requires { ⌜ Ready (now book) (now limits) ⌝ }
     requires { ⌜ k < records ⌝ }
-    ensures { λ r. ⌜ r ≡ seatNear (fields (now (book .entry))) k ⌝ }
+    ensures { λ r. ⌜ r ≡ seatNear lagOf (fields (now (book .entry))) k ⌝ }
 {
     if k < parts::desks_of(book) {
         row_ok(book, limits, tools::wide(parts::seat_lag_of(book)), k)
@@ -153,7 +141,7 @@ fn seat_near(book: &[u8], limits: &[u8; 24], k: usize) -> bool
 fn seat_ok(book: &[u8], limits: &[u8; 24], k: usize) -> bool
     requires { ⌜ Ready (now book) (now limits) ⌝ }
     requires { ⌜ k < seats ⌝ }
-    ensures { λ r. ⌜ r ≡ recordOk (fields (now (book .entry))) k ⌝ }
+    ensures { λ r. ⌜ r ≡ recordOk lagOf (fields (now (book .entry))) k ⌝ }
 {
     (parts::tag_a(book, k) <= parts::STARTED)
         & ((parts::tag_b(book, k) == parts::FILLER)
@@ -164,7 +152,7 @@ fn seat_ok(book: &[u8], limits: &[u8; 24], k: usize) -> bool
 fn free_ok(book: &[u8], k: usize) -> bool
     requires { ⌜ length (now book) ≡ bookSize ⌝ }
     requires { ⌜ (mailFrom ≤ k) × (k < records) × (fields (now book) .at k .tagA ≡ 0) ⌝ }
-    ensures { λ r. ⌜ r ≡ recordOk (fields (now (book .entry))) k ⌝ }
+    ensures { λ r. ⌜ r ≡ recordOk lagOf (fields (now (book .entry))) k ⌝ }
 {
     if parts::tag_b(book, k) != parts::FILLER {
         return false;
@@ -175,7 +163,7 @@ fn free_ok(book: &[u8], k: usize) -> bool
 fn mail_ok(book: &[u8], limits: &[u8; 24], k: usize) -> bool
     requires { ⌜ Ready (now book) (now limits) ⌝ }
     requires { ⌜ (mailFrom ≤ k) × (k < shelfFrom) × Used (now book) k ⌝ }
-    ensures { λ r. ⌜ r ≡ recordOk (fields (now (book .entry))) k ⌝ }
+    ensures { λ r. ⌜ r ≡ recordOk lagOf (fields (now (book .entry))) k ⌝ }
 {
     let a = parts::tag_a(book, k);
     let b = parts::tag_b(book, k);
@@ -189,7 +177,7 @@ fn mail_ok(book: &[u8], limits: &[u8; 24], k: usize) -> bool
 fn slot_ok(book: &[u8], limits: &[u8; 24], k: usize) -> bool
     requires { ⌜ Ready (now book) (now limits) ⌝ }
     requires { ⌜ (shelfFrom ≤ k) × (k < records) × Used (now book) k ⌝ }
-    ensures { λ r. ⌜ r ≡ recordOk (fields (now (book .entry))) k ⌝ }
+    ensures { λ r. ⌜ r ≡ recordOk lagOf (fields (now (book .entry))) k ⌝ }
 {
     (parts::tag_b(book, k) == parts::FILLER)
         & ((tools::wide(parts::tag_a(book, k)) <= parts::desks_of(book))
@@ -199,8 +187,8 @@ fn slot_ok(book: &[u8], limits: &[u8; 24], k: usize) -> bool
 // Whether record k has its mark, and its contents are in order.
 fn marked(book: &[u8], k: usize, ok: bool) -> bool
     requires { ⌜ length (now book) ≡ bookSize ⌝ }
-    requires { ⌜ (k < records) × (ok ≡ recordOk (fields (now book)) k) ⌝ }
-    ensures { λ r. ⌜ r ≡ recordSound (now (book .entry)) k ⌝ }
+    requires { ⌜ (k < records) × (ok ≡ recordOk lagOf (fields (now book)) k) ⌝ }
+    ensures { λ r. ⌜ r ≡ recordSound lagOf (now (book .entry)) k ⌝ }
 {
     (parts::byte_at(book, k, 0) == parts::first_mark(k))
         & ((parts::byte_at(book, k, 1) == parts::second_mark(k)) & ok)
@@ -210,7 +198,7 @@ fn marked(book: &[u8], k: usize, ok: bool) -> bool
 fn record_sound(book: &[u8], limits: &[u8; 24], k: usize) -> bool
     requires { ⌜ Ready (now book) (now limits) ⌝ }
     requires { ⌜ k < records ⌝ }
-    ensures { λ r. ⌜ r ≡ recordSound (now (book .entry)) k ⌝ }
+    ensures { λ r. ⌜ r ≡ recordSound lagOf (now (book .entry)) k ⌝ }
 {
     if k < parts::SEATS {
         return marked(book, k, seat_ok(book, limits, k));
@@ -226,12 +214,9 @@ fn record_sound(book: &[u8], limits: &[u8; 24], k: usize) -> bool
 
 fn records_sound(book: &[u8]) -> bool
     requires { ⌜ length (now book) ≡ bookSize ⌝ }
-    ensures { λ r. ⌜ r ≡ allBelow records (recordSound (now (book .entry))) ⌝ }
+    ensures { λ r. ⌜ r ≡ allBelow records (recordSound lagOf (now (book .entry))) ⌝ }
 {
     let limits = limits_of(book);
-    if !own_ok(&limits) {
-        return false;
-    }
     let mut ok = true;
     let mut k: usize = 0;
     while k < parts::RECORDS {
@@ -261,11 +246,13 @@ fn head_ok(book: &[u8]) -> bool
     (book[0] == parts::BOOK_MARK0) & ((book[1] == parts::BOOK_MARK1) & spare_zero(book))
 }
 
+// The records come first: nothing has to be held for later while they are gone through.
 pub fn sound(book: &[u8]) -> bool
     ensures { λ r. ⌜ r ≡ Sound.sound (now (book .entry)) ⌝ }
 {
     if book.len() != parts::BOOK_BYTES {
         return false;
     }
-    head_ok(book) & (rules::permits(parts::setup_of(book)) & records_sound(book))
+    let records = records_sound(book);
+    head_ok(book) & (rules::permits(parts::setup_of(book)) & records)
 }

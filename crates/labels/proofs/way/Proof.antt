@@ -1,7 +1,7 @@
 -- `labels::way` meets its contract.
 -- Assumes nothing.
 use native.Mathlib.Omega.{arith}
-use Prim.Native.Nat.{_+_}
+use Prim.Native.Nat.{_+_, _<_}
 use mathlib.Core.Path.{_≡_}
 use Rattle.tools.specs.Lists.{byte}
 use Rattle.ring.proofs.Ring.{lag-below}
@@ -71,7 +71,8 @@ sub-t17 c =
     let a = entry (c .before) .args in
     let r = asks (entry (c .before)) in
     let i = rowSpot + seen (c .before) .before .phase-spot .result in
-    omega (arith, lag-below (a .setup .phases) (byte (a .second .now) i) (byte (a .first .now) i) (omega arith), c .before .lag .ensures)
+    let on : byte (a .second .now) i < a .setup .phases = rw (phase-stands (c .before)) (r .second) in
+    omega (arith, lag-below (a .setup .phases) (byte (a .second .now) i) (byte (a .first .now) i) on, c .before .lag .ensures)
 
 returns-2 : tie.Need-returns-2
 returns-2 c =

@@ -20,11 +20,12 @@ loop-holds c = (search needs, limits-none _ _ refl)
 
 loop-again : tie.Need-loop-again Inv-loop μ-loop
 loop-again c =
-    let h = c .before .before .before .before .before .before .loop in
-    let d = c .before .before .before .before .before .before .before .desks-of .ensures in
-    let x = rw d at (c .before .before .before .count-of .ensures) in
-    let z = rw d at (c .count-of2 .ensures) in
-    (omega arith, limits-more _ (h .limits) (h .j) _ _ _ (h .inv .1) (omega arith) x (c .before .before .phase-at .ensures) z)
+    let h = c .before .before .before .before .before .before .before .loop in
+    let d = c .before .before .before .before .before .before .before .before .desks-of .ensures in
+    let x = rw d at (c .before .before .before .before .of-desk .ensures) in
+    let y = rw (d, c .before .before .before .phase-at .ensures) at (c .before .before .of-desk2 .ensures) in
+    let z = rw d at (c .of-desk3 .ensures) in
+    (omega arith, limits-more _ (h .limits) (h .j) _ _ _ (h .inv .1) (omega arith) x y z)
 
 returns : tie.Need-returns Inv-loop μ-loop
 returns c = let h = c .before .loop in let e : h .j ≡ 8 = omega arith in rw e at (h .inv .1)
@@ -34,5 +35,5 @@ limits-of-spec =
     tie.close
     (tie.spec
     Inv-loop μ-loop (λ c κs. search needs) loop-holds (λ c. search needs) (λ c κs. search needs) (λ c. omega arith) (λ c. omega arith)
-    (λ c κs. search needs) (λ c. omega arith) (λ c. omega arith) (λ c. search needs) (λ c κs. search needs) (λ c. omega arith)
-    (λ c. omega arith) (λ c. omega arith) (λ c. omega arith) loop-again returns)
+    (λ c κs. search needs) (λ c κs. search needs) (λ c. omega arith) (λ c. omega arith) (λ c. search needs) (λ c κs. search needs)
+    (λ c. omega arith) (λ c. omega arith) (λ c. omega arith) (λ c. omega arith) loop-again returns)

@@ -1,17 +1,20 @@
 -- `soundness::pair_ok` meets its contract.
 -- Assumes nothing.
-use native.Mathlib.Omega.{arith}
+use mathlib.Core.Bool.{_&&_}
+use mathlib.Core.Path.{ap}
 use lib.Dec.{ltb}
-use Rattle.soundness.proofs.Checks.{pair-sums}
+use Rattle.tools.specs.Tests.{allOf}
+use Rattle.soundness.proofs.Checks.{lag-sum}
 use borrow.Author.Needs.{needs}
 use Rattle.soundness.proofs.pair_ok.Statement.{statement}
 use Rattle.soundness.proofs.pair_ok.Tie as tie
 
 returns : tie.Need-returns
+unfolding allOf
 returns c =
     let a = c .before .before .before .before .args in
     rw (c .before .before .before .wide .ensures, c .before .wide2 .ensures, c .before .before .lap .ensures, c .wide3 .ensures)
-    (pair-sums (a .phases) (a .own) (a .phase) (a .bound) (ltb (a .clock) (a .clocks)) (omega arith))
+    (ap (λ t. ltb (a .phase) (a .phases) && (ltb (a .clock) (a .clocks) && t)) (lag-sum (a .phases) (a .own) (a .phase) (a .bound)))
 
 pub pair-ok-spec : {M : Type 1} → statement M
 pair-ok-spec =

@@ -5,28 +5,23 @@ use mathlib.Core.Bool.{true}
 use mathlib.Core.Path.{_≡_}
 use native.Mathlib.Omega.{arith}
 use borrow.Author.Needs.{needs}
+use Rattle.ring.specs.Phases.{lagOf}
 use Rattle.tools.specs.Tests.{allBelow}
 use Rattle.tools.proofs.Tests.{and-none, and-more}
 use Rattle.book.specs.Layout.{fields}
 use Rattle.book.specs.Sound.{columnOk, rowOk}
-use Rattle.soundness.proofs.Checks.{column-is, own-below}
+use Rattle.soundness.proofs.Checks.{column-is}
 use Rattle.soundness.proofs.row_ok.Statement.{statement}
 use Rattle.soundness.proofs.row_ok.Tie as tie
 
 abbrev Inv-loop : tie.InvT-loop
-Inv-loop book limits bound k ok₀ j₀ ok j = (j ≤ 8) × (ok ≡ allBelow j (columnOk (fields book) bound k))
+Inv-loop book limits bound k ok₀ j₀ ok j = (j ≤ 8) × (ok ≡ allBelow j (columnOk lagOf (fields book) bound k))
 
 abbrev μ-loop : tie.MeasureT-loop
 μ-loop book limits bound k ok₀ j₀ ok j = 8 - j
 
 loop-holds : tie.Need-loop-holds Inv-loop μ-loop
 loop-holds c = (search needs, and-none true _)
-
-pair-ok-requires : tie.Need-pair-ok-requires Inv-loop μ-loop
-pair-ok-requires c κs =
-    let a = c .before .before .before .before .before .before .before .before .args in
-    let h = c .before .before .before .before .before .before .loop in
-    (own-below (a .book .now) (a .limits .now) (h .j) (search needs) (omega arith), search needs)
 
 loop-again : tie.Need-loop-again Inv-loop μ-loop
 loop-again c =
@@ -48,4 +43,5 @@ row-ok-spec =
     tie.close
     (tie.spec
     Inv-loop μ-loop loop-holds (λ c κs. search needs) (λ c κs. search needs) (λ c. omega arith) (λ c. search needs) (λ c. omega arith)
-    (λ c. search needs) (λ c. omega arith) (λ c. search needs) pair-ok-requires (λ c. omega arith) (λ c. omega arith) loop-again returns)
+    (λ c. search needs) (λ c. omega arith) (λ c. search needs) (λ c κs. search needs) (λ c. omega arith) (λ c. omega arith) loop-again
+    returns)
