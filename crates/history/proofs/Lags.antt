@@ -21,7 +21,7 @@ pub line-true : TrueLag line
 line-true = record { lag = λ own v l. omega arith; next = λ v. omega arith }
 
 -- the map that leaves each phase as it is
-abbrev same : ℕ → ℕ → ℕ
+abbrev pub same : ℕ → ℕ → ℕ
 same k v = v
 
 same-held : (o : Option Held) → mapHeld same o ≡ o
@@ -58,6 +58,11 @@ same-result r =
       tables = same-tables (r .tables) i;
     }
 
+-- two arithmetics that go on alike and lag alike wherever a book asks make the same step of it
+pub step-same : (Z Y : Phases) (X : Setup) (b : Tables) → Agrees Z Y same X b → (c : Act) → step Z X b c ≡ step Y X b c
+step-same Z Y X b w c =
+    ap (λ (d : Tables). step Z X d c) (sym (same-tables b)) ∙ step-map Z Y same X b w c ∙ same-result (step Y X b c)
+
 module _ (Z : Setup → Phases) (t : (Y : Setup) → TrueLag (Z Y)) where
   module _ (X : Setup) (b : Tables) (w : NoneAhead b) where
     lag-is : (k v : ℕ) → v ≤ phases b k → Z X .lag (phases b k) v ≡ phases b k - v
@@ -76,15 +81,12 @@ module _ (Z : Setup → Phases) (t : (Y : Setup) → TrueLag (Z Y)) where
           shelf = λ s. held-keeps (b .shelf s) (w .shelf s);
         }
 
-    same-step : (c : Act) → step (Z X) X b c ≡ step line X b c
-    same-step c =
-        ap (λ (d : Tables). step (Z X) X d c) (sym (same-tables b))
-        ∙ step-map (Z X) line same X b line-agrees c ∙ same-result (step line X b c)
-
   same-call : (b : Book) → NoneAhead (b .tables) → (c : Call) → call Z b c ≡ call lineOf b c
   unfolding call
   same-call b w (start X) = refl
-  same-call b w (on c) = ap (turnOf (b .setup)) (same-step (b .setup) (b .tables) w c)
+  same-call b w (on c) =
+      let X = b .setup in
+      ap (turnOf X) (step-same (Z X) line X (b .tables) (line-agrees X (b .tables) w) c)
 
   same-run : (b : Book) → NoneAhead (b .tables) → (cs : List Call) → run Z b cs ≡ run lineOf b cs
   unfolding run
