@@ -52,7 +52,7 @@ static int all_zero(const uint8_t *bytes, size_t count)
     return 1;
 }
 
-/* Both phases are below the ring's size, so one addition stands for the remainder. */
+/* P is added after the subtraction, where own is below: the sum wraps back, and it takes fewer instructions than the other order. */
 static size_t lag(size_t own, size_t phase, size_t phases)
 {
     size_t behind = own - phase;

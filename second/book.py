@@ -77,6 +77,15 @@ def own_phases(book):
     return [book[own_entry(desk)] for desk in range(SEATS)]
 
 
+# Phases
+
+def lag_behind(own, phase, P):
+    """As the desk handbook has it: own phase at least v, subtract; otherwise add P first."""
+    if own >= phase:
+        return own - phase
+    return own + P - phase
+
+
 # A sound book, clause by clause
 
 def sound(book):
@@ -107,7 +116,7 @@ def row_sound(row, setup, own, limit):
     P, L = setup.P, setup.L
     filler = 2 * setup.D
     for phase, clock, now in zip(row[0:filler:2], row[1:filler:2], own):
-        if phase >= P or clock >= L or (now - phase) % P > limit:
+        if phase >= P or clock >= L or lag_behind(now, phase, P) > limit:
             return False
     return row[filler:] == NO_ROW[filler:]
 
@@ -186,7 +195,7 @@ def phase_full(book, desk):
 
 
 def lag(book, desk, phase):
-    return (book[own_entry(desk)] - phase) % setup_of(book).P
+    return lag_behind(book[own_entry(desk)], phase, setup_of(book).P)
 
 
 def lag_in(book, record, desk):
@@ -415,7 +424,7 @@ def difference_on_book(book, e, f):
 
 def difference_off_book(setup, e, f):
     j = e.owner
-    r = (f.row[2 * j] - e.row[2 * j]) % setup.P
+    r = lag_behind(f.row[2 * j], e.row[2 * j], setup.P)
     if r <= setup.n - 1:
         return r
     if setup.P - r <= setup.m - 1:

@@ -2,7 +2,7 @@
 
 Each event knows the set of all events that lead to it (and itself). A row is
 read off that set: for each desk the pair of its last event there, 0.0 if none.
-No pair is ever merged, no lag is ever taken modulo P. Phases come round only
+No pair is ever merged, and no lag goes round a ring. Phases come round only
 where they are printed or laid out as bytes.
 """
 

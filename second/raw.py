@@ -7,9 +7,9 @@ DRIVER is tests/raw_driver.c, linked to the library: it makes the calls that it
 is asked for. A prefix to run it by is given by --runner. `tests/raw` builds it.
 
 Sound books made at random (unreachable ones too), bytes damaged at every
-offset, wrong lengths and odd numbers. The answer and every byte of every lent
-buffer, and of the bytes on both sides of it, must be alike. The first
-difference is printed and ends with 1.
+offset, phases off the ring, wrong lengths and odd numbers. The answer and every
+byte of every lent buffer, and of the bytes on both sides of it, must be alike.
+The first difference is printed and ends with 1.
 """
 
 import argparse
@@ -234,6 +234,10 @@ def damaged_byte(rng, content, offset):
     return content[:offset] + bytes((other,)) + content[offset + 1:]
 
 
+def moved_round(content, offset, P):
+    return content[:offset] + bytes((min(255, content[offset] + P),)) + content[offset + 1:]
+
+
 # Numbers and buffers
 
 def odd_numbers(D):
@@ -282,6 +286,7 @@ def trials(rng):
         yield from odd_setup_trials(rng)
         yield from length_trials(rng)
         yield from offset_trials(rng)
+        yield from round_trials(rng)
         yield from label_trials(rng)
         yield from noise_trials(rng)
         for _ in range(SOUND_BOOKS):
@@ -317,6 +322,14 @@ def offset_trials(rng):
     for offset in range(book.BOOK_BYTES):
         content = damaged_byte(rng, sound_book(rng), offset)
         yield fitting(rng, some_call(rng), Lent(rng, content))
+
+
+def round_trials(rng):
+    """A phase off the ring, where it can be by just P: a desk's own, and one in any row."""
+    for desk in range(8):
+        for at in (book.own_entry(desk), rng.randrange(book.SEAT_AT, book.BOOK_BYTES, 20) + 4 + 2 * desk):
+            content = sound_book(rng)
+            yield fitting(rng, some_call(rng), Lent(rng, moved_round(content, at, content[3])))
 
 
 def noise_trials(rng):
@@ -370,18 +383,20 @@ def label_pair(rng):
 def label_trials(rng):
     for name in LABEL_CALLS:
         for _ in range(200):
-            yield label_trial(rng, name, lambda label: label)
+            yield label_trial(rng, name, lambda label, P: label)
         for offset in range(book.RECORD_BYTES):
-            yield label_trial(rng, name, lambda label: damaged_byte(rng, label, offset))
+            yield label_trial(rng, name, lambda label, P: damaged_byte(rng, label, offset))
+        for desk in range(8):
+            yield label_trial(rng, name, lambda label, P: moved_round(label, 4 + 2 * desk, P))
         for length in WRONG_LABEL_LENGTHS:
-            yield label_trial(rng, name, lambda label: (label + label)[:length])
+            yield label_trial(rng, name, lambda label, P: (label + label)[:length])
 
 
 def label_trial(rng, name, spoil):
     setup = any_setup(rng)
     labels = list(two_labels(rng, setup))
     at = rng.randrange(2)
-    labels[at] = spoil(labels[at])
+    labels[at] = spoil(labels[at], setup.P)
     lent = [Lent(rng, label) for label in labels]
     return name, [*setup, *lent, *value_buffers(rng, name)]
 

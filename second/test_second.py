@@ -67,6 +67,12 @@ class Cases(unittest.TestCase):
         self.assertEqual(calls(fresh(), *two)[1][0].row[:2], bytes((2, 0)))
         self.assertEqual(calls(fresh(), *two, ("reset", 0))[0], book.SEAT_BEHIND)
 
+    def test_the_lag_is_the_remainder_of_phases_of_the_ring(self):
+        for P in range(3, 256):
+            for own in range(P):
+                self.assertEqual([book.lag_behind(own, v, P) for v in range(P)],
+                                 [(own - v) % P for v in range(P)])
+
     def test_9_later_is_the_smaller_lag(self):
         given = bytearray(fresh())
         for own, later in ((0, 0), (4, 4)):
@@ -155,6 +161,14 @@ TRUE = {name: getattr(book, name) for name in
          "says_before", "row_sound", "used_place_sound")}
 
 
+def lag_without_adding_P(own, phase, P):
+    return own - phase
+
+
+def own_above_v_subtracts(own, phase, P):
+    return own - phase if own > phase else own + P - phase
+
+
 def larger_byte_is_later(given, desk, one, other):
     return max(one, other)
 
@@ -211,6 +225,12 @@ def any_filler(row, setup, own, limit):
     return TRUE["row_sound"](row[:2 * setup.D] + bytes(16 - 2 * setup.D), setup, own, limit)
 
 
+def phases_come_round(row, setup, own, limit):
+    """A phase off the ring is read by its remainder."""
+    rounded = bytes(byte if at % 2 else byte % setup.P for at, byte in enumerate(row))
+    return TRUE["row_sound"](rounded, setup, [phase % setup.P for phase in own], limit)
+
+
 def one_more_lag(row, setup, own, limit):
     return TRUE["row_sound"](row, setup, own, limit + 1)
 
@@ -220,20 +240,22 @@ def to_oneself_is_sound(given, at, setup):
 
 
 ERRORS = (
+    ("lag_behind", lag_without_adding_P), ("lag_behind", own_above_v_subtracts),
     ("later_pair", larger_byte_is_later), ("says_before", nought_is_never_seen),
     ("receive", place_stays_used), ("receive", refused_receipt_frees),
     ("reset_number", only_seats_are_checked), ("merge", own_phase_from_mail),
     ("answer_compare", unreachable_is_concurrent),
 )
 
-# The last five no listing can show: they need books that no run reaches.
+# The last six no listing can show: they need books that no run reaches.
 RAW_ERRORS = (
+    ("lag_behind", lag_without_adding_P), ("lag_behind", own_above_v_subtracts),
     ("later_pair", larger_byte_is_later), ("says_before", nought_is_never_seen),
     ("receive", place_stays_used), ("reset_number", only_seats_are_checked),
     ("answer_compare", unreachable_is_concurrent),
     ("later_pair", nought_is_nothing), ("merge", own_entry_is_merged),
     ("row_sound", any_filler), ("row_sound", one_more_lag),
-    ("used_place_sound", to_oneself_is_sound),
+    ("row_sound", phases_come_round), ("used_place_sound", to_oneself_is_sound),
 )
 
 
