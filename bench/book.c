@@ -52,7 +52,7 @@ static int all_zero(const uint8_t *bytes, size_t count)
     return 1;
 }
 
-/* P is added after the subtraction, where own is below: the sum wraps back, and it takes fewer instructions than the other order. */
+/* P is added after the subtraction, where own is below: the sum wraps back. On the book that takes fewer instructions than P first. */
 static size_t lag(size_t own, size_t phase, size_t phases)
 {
     size_t behind = own - phase;
