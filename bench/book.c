@@ -31,7 +31,7 @@ static int setup_permitted(const struct setup *s)
         && in_range(s->seat_lag, 1, 127) && in_range(s->shelf_lag, 1, 254)
         && in_range(s->back, 1, 127) && in_range(s->ahead, 1, 127)
         && s->shelf_lag >= s->seat_lag && s->phases >= 2 * s->seat_lag + 1
-        && s->phases >= s->shelf_lag + 1 && s->phases >= s->back + s->ahead - 1;
+        && s->phases >= s->shelf_lag + 1 && s->phases >= s->back + s->ahead;
 }
 
 static struct setup setup_of(const uint8_t *book)
@@ -444,9 +444,11 @@ static int label_difference(const struct setup *s, struct event e, struct event 
     return forward < s->ahead ? (int)forward : (int)forward - (int)s->phases;
 }
 
-static int within_reach(const struct setup *s, int difference)
+/* A reset, whose own clock is 0, is not before itself: it reaches one phase further back. */
+static int within_reach(const struct setup *s, struct event e, int difference)
 {
-    return difference > -(int)s->back && difference < (int)s->ahead;
+    int no_reset = e.row[2 * e.owner + 1] != 0;
+    return difference >= no_reset - (int)s->back && difference < (int)s->ahead;
 }
 
 static int is_before(struct event e, struct event f, int difference)
@@ -482,7 +484,7 @@ uint8_t plain_before(const uint8_t *book, size_t book_len, size_t first, size_t 
         return NO_ROOM;
     struct event e = kept_event(book, first), f = kept_event(book, second);
     int difference = shelf_difference(book, &s, e, f);
-    if (!within_reach(&s, difference))
+    if (!within_reach(&s, e, difference))
         return OUT_OF_REACH;
     *answer = (uint8_t)is_before(e, f, difference);
     return DONE;
@@ -500,7 +502,7 @@ uint8_t plain_compare(const uint8_t *book, size_t book_len, size_t first, size_t
         return NO_ROOM;
     struct event e = kept_event(book, first), f = kept_event(book, second);
     int forth = shelf_difference(book, &s, e, f), back = shelf_difference(book, &s, f, e);
-    if (!within_reach(&s, forth) || !within_reach(&s, back))
+    if (!within_reach(&s, e, forth) || !within_reach(&s, f, back))
         return OUT_OF_REACH;
     *answer = relation(e, f, forth, back);
     return DONE;
@@ -570,7 +572,7 @@ static uint8_t labels_before(const struct labels *l, uint8_t *answer, size_t ans
         return refused;
     struct event e = label_event(l->first), f = label_event(l->second);
     int difference = label_difference(&l->setup, e, f);
-    if (!within_reach(&l->setup, difference))
+    if (!within_reach(&l->setup, e, difference))
         return OUT_OF_REACH;
     *answer = (uint8_t)is_before(e, f, difference);
     return DONE;
@@ -583,7 +585,7 @@ static uint8_t labels_compare(const struct labels *l, uint8_t *answer, size_t an
         return refused;
     struct event e = label_event(l->first), f = label_event(l->second);
     int forth = label_difference(&l->setup, e, f), back = label_difference(&l->setup, f, e);
-    if (!within_reach(&l->setup, forth) || !within_reach(&l->setup, back))
+    if (!within_reach(&l->setup, e, forth) || !within_reach(&l->setup, f, back))
         return OUT_OF_REACH;
     *answer = relation(e, f, forth, back);
     return DONE;

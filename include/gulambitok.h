@@ -109,8 +109,8 @@ enum {
 
 /* Start writes a fresh book under a setup: rows zero, no seat started, all places free. What the
  * book held before is lost. The setup is D desks, P phases on the ring, L clock values, M the lag
- * permitted to a seat, A the lag permitted to a kept stamp, m and n the reach of a comparison back
- * and ahead. Refusals: 1, 2. */
+ * permitted to a seat, A the lag permitted to a kept stamp, m and n the reach of a comparison: from
+ * m-1 phases back, m from a reset, to n-1 ahead. Refusals: 1, 2. */
 uint8_t gulambitok_start(uint8_t *book, size_t book_len, size_t desks, size_t phases, size_t clocks,
                          size_t seat_lag, size_t shelf_lag, size_t back, size_t ahead);
 

@@ -43,7 +43,7 @@ def permitted(setup):
                for number, (low, high) in zip(setup, RANGES)):
         return False
     D, P, L, M, A, m, n = setup
-    return A >= M and P >= 2 * M + 1 and P >= A + 1 and P >= m + n - 1
+    return A >= M and P >= 2 * M + 1 and P >= A + 1 and P >= m + n
 
 
 def setup_of(book):
@@ -412,22 +412,30 @@ def write(book, slot, target):
 
 # Comparing: a difference is a number, or None when it is out of reach
 
-def within_reach(setup, d):
-    return -(setup.m - 1) <= d <= setup.n - 1
+def is_reset(e):
+    return e.row[2 * e.owner + 1] == 0
+
+
+def reach(setup, e):
+    """How far back and ahead; a reset is not before itself, so it reaches one phase further back."""
+    back = setup.m if is_reset(e) else setup.m - 1
+    return back, setup.n - 1
 
 
 def difference_on_book(book, e, f):
     j = e.owner
+    back, ahead = reach(setup_of(book), e)
     d = lag(book, j, e.row[2 * j]) - lag(book, j, f.row[2 * j])
-    return d if within_reach(setup_of(book), d) else None
+    return d if -back <= d <= ahead else None
 
 
 def difference_off_book(setup, e, f):
     j = e.owner
+    back, ahead = reach(setup, e)
     r = lag_behind(f.row[2 * j], e.row[2 * j], setup.P)
-    if r <= setup.n - 1:
+    if r <= ahead:
         return r
-    if setup.P - r <= setup.m - 1:
+    if setup.P - r <= back:
         return r - setup.P
     return None
 

@@ -14,13 +14,14 @@ def permitted(D, P, L, M, A, m, n):
         return False
     if M not in range(1, 128) or m not in range(1, 128) or n not in range(1, 128):
         return False
-    return A in range(M, P) and A < 255 and 2 * M < P and m + n - 2 < P
+    return A in range(M, P) and A < 255 and 2 * M < P and m + n <= P
 
 
 class Event:
-    def __init__(self, desks, desk, turn, pair, leading):
+    def __init__(self, desks, desk, turn, is_reset, pair, leading):
         self.desk = desk
         self.turn = turn
+        self.is_reset = is_reset
         self.phase, self.clock = pair
         self.past = frozenset(leading | {self})
         self.pairs = last_pairs(desks, self.past)
@@ -73,13 +74,13 @@ class Run:
 
     # Events
 
-    def happen(self, desk, pair, mail=None):
+    def happen(self, desk, pair, mail=None, is_reset=False):
         before = self.last[desk]
         leading = before.past if before else frozenset()
         if mail:
             leading = leading | mail.past
         turn = before.turn + 1 if before else 0
-        event = Event(self.D, desk, turn, pair, leading)
+        event = Event(self.D, desk, turn, is_reset, pair, leading)
         self.events.append(event)
         self.last[desk] = event
         return event
@@ -134,7 +135,7 @@ class Run:
         kept = [event.pairs for event in self.shelf if event]
         if any(self.behind(desk, row) >= self.A for row in kept):
             return 13, ()
-        return 0, (self.happen(desk, (self.own(desk)[0] + 1, 0)),)
+        return 0, (self.happen(desk, (self.own(desk)[0] + 1, 0), is_reset=True),)
 
     # Shelf and mail
 
@@ -163,9 +164,14 @@ class Run:
 
     # Comparing, by chains
 
+    def difference(self, e, f):
+        """How many true phases of e's desk f is ahead of e."""
+        return f.pairs[e.desk][0] - e.phase
+
     def within_reach(self, e, f):
-        d = f.pairs[e.desk][0] - e.phase
-        return -self.m < d < self.n
+        """The m-th reset before e is a phase further back where e is a reset itself."""
+        furthest = -self.m if e.is_reset else 1 - self.m
+        return furthest <= self.difference(e, f) < self.n
 
     def leads(self, e, f):
         """A chain leads from e to f, and they are two events."""

@@ -152,10 +152,9 @@ def any_setup(rng):
         return book.Setup(*seeds.good_setup(rng))
     P = rng.choice((3, 4, 5, 128, 254, 255, rng.randint(3, 255)))
     M = rng.randint(1, (P - 1) // 2)
-    m = rng.randint(1, min(127, P))
-    n = rng.randint(1, min(127, P + 1 - m))
     L = rng.choice((2, 3, 4, 255, rng.randint(2, 255)))
-    return book.Setup(rng.randint(2, 8), P, L, M, rng.randint(M, P - 1), m, n)
+    return book.Setup(rng.randint(2, 8), P, L, M, rng.randint(M, P - 1),
+                      *seeds.some_reach(rng, P))
 
 
 def some(rng, limit):
@@ -225,6 +224,24 @@ def sound_book(rng):
     return made
 
 
+def edge_of_reach(rng, setup):
+    """A difference at an end of the reach, with and without a reset, or just beyond it."""
+    return rng.choice((-setup.m - 1, -setup.m, 1 - setup.m, setup.n - 1, setup.n))
+
+
+def slots_apart(rng, content, first, second):
+    """The book, still sound, with a used slot at an edge of another's reach, if the shelf may lag so far."""
+    setup, made = book.setup_of(content), bytearray(content)
+    j, d = content[book.slot_at(first) + 2] - 1, edge_of_reach(rng, setup)
+    e, f = (book.slot_at(slot) + 4 + 2 * j for slot in (first, second))
+    if first != second and abs(d) <= setup.A:
+        lag = rng.randint(max(0, d), setup.A + min(0, d))
+        made[e] = (content[book.own_entry(j)] - lag) % setup.P
+        made[f] = (made[e] + d) % setup.P
+        made[e + 1] = rng.choice((0, made[e + 1]))
+    return bytes(made)
+
+
 def damaged_byte(rng, content, offset):
     """One byte made another, often by little."""
     byte = content[offset]
@@ -277,6 +294,11 @@ def some_call(rng):
     return rng.choice(tuple(BOOK_CALLS))
 
 
+def sound_call(rng):
+    """A call that asks whether the book is sound: any but start."""
+    return rng.choice(tuple(name for name in BOOK_CALLS if name != "start"))
+
+
 # The trials: names and arguments
 
 def trials(rng):
@@ -284,6 +306,7 @@ def trials(rng):
     while True:
         yield from odd_number_trials(rng)
         yield from odd_setup_trials(rng)
+        yield from short_ring_trials(rng)
         yield from length_trials(rng)
         yield from offset_trials(rng)
         yield from round_trials(rng)
@@ -309,6 +332,20 @@ def odd_setup_trials(rng):
             yield "start", [Lent(rng, sound_book(rng)), *setup]
             name = rng.choice(LABEL_CALLS)
             yield name, [*setup, *label_pair(rng), *value_buffers(rng, name)]
+
+
+def short_ring_trials(rng):
+    """P of just m+n, and one less: to start, of records and in the header of a fresh book."""
+    for P in (3, 4, 5, 128, 254):
+        m = rng.randint(max(1, P - 127), min(127, P - 1))
+        setup = book.Setup(rng.randint(2, 8), P, rng.randint(2, 255), 1, 1, m, P - m)
+        given = book.start(bytes(book.BOOK_BYTES), *setup)[2]
+        for ring in (P, P - 1):
+            yield "start", [Lent(rng, given), *setup._replace(P=ring)]
+            yield fitting(rng, sound_call(rng), Lent(rng, given[:3] + bytes((ring,)) + given[4:]))
+            for name in LABEL_CALLS:
+                labels = [Lent(rng, label) for label in two_labels(rng, setup)]
+                yield name, [*setup._replace(P=ring), *labels, *value_buffers(rng, name)]
 
 
 def length_trials(rng):
@@ -342,10 +379,15 @@ def sound_trials(rng):
     """Some calls one after another on one book, wherever it came from."""
     given = Lent(rng, sound_book(rng))
     for _ in range(4):
-        name = rng.choice(tuple(name for name in BOOK_CALLS if name != "start"))
-        yield fitting(rng, name, given)
+        yield fitting(rng, sound_call(rng), given)
     for name in ("receive", "before", "compare", "reset"):
         yield name, [given, *aimed(rng, name, given.content()), *value_buffers(rng, name)]
+    for name in ("before", "compare"):
+        first, second = aimed(rng, name, given.content())
+        if book.slot_used(given.content(), first):
+            content = slots_apart(rng, given.content(), first, second)
+            content = slots_apart(rng, content, second, first)
+            yield name, [Lent(rng, content), first, second, *value_buffers(rng, name)]
 
 
 def aimed(rng, name, content):
@@ -372,8 +414,21 @@ def random_label(rng, setup, phases):
 
 def two_labels(rng, setup):
     phases = [rng.randrange(setup.P) for _ in range(setup.D)]
-    first = random_label(rng, setup, phases)
-    return first, first if rng.random() < 0.1 else random_label(rng, setup, phases)
+    first, second = (random_label(rng, setup, phases) for _ in range(2))
+    if rng.random() < 0.1:
+        return first, first
+    if rng.random() < 0.6:
+        first, second = labels_apart(rng, setup, first, second)
+        second, first = labels_apart(rng, setup, second, first)
+    return first, second
+
+
+def labels_apart(rng, setup, first, second):
+    """Two labels, the second at an edge of the first one's reach."""
+    e, f, at = bytearray(first), bytearray(second), 4 + 2 * first[2]
+    f[at] = (e[at] + edge_of_reach(rng, setup)) % setup.P
+    e[at + 1] = rng.choice((0, e[at + 1]))
+    return bytes(e), bytes(f)
 
 
 def label_pair(rng):

@@ -17,12 +17,13 @@ from second.listing import parse
 
 # Each at some edge of the ranges or of the four inequalities.
 EDGE_SETUPS = (
-    (2, 3, 2, 1, 1, 1, 1), (2, 3, 3, 1, 2, 2, 2), (3, 5, 4, 2, 4, 2, 2),
-    (8, 3, 255, 1, 1, 1, 3), (8, 3, 20, 1, 2, 3, 1), (4, 3, 12, 1, 2, 2, 2),
-    (2, 5, 2, 2, 2, 3, 3), (2, 7, 2, 3, 6, 4, 4), (3, 4, 9, 1, 3, 2, 3),
+    (2, 3, 2, 1, 1, 1, 1), (2, 3, 3, 1, 2, 1, 2), (3, 5, 4, 2, 4, 2, 2),
+    (8, 3, 255, 1, 1, 1, 2), (8, 3, 20, 1, 2, 2, 1), (4, 3, 12, 1, 2, 1, 2),
+    (2, 5, 2, 2, 2, 3, 2), (2, 7, 2, 3, 6, 3, 4), (3, 4, 9, 1, 3, 2, 2),
     (2, 255, 255, 127, 254, 127, 127), (8, 255, 255, 127, 254, 127, 127),
     (2, 255, 2, 127, 127, 1, 127), (3, 255, 5, 127, 127, 127, 1),
-    (5, 9, 30, 4, 4, 5, 5), (6, 3, 30, 1, 1, 1, 1), (7, 6, 40, 2, 5, 3, 4),
+    (3, 254, 255, 126, 253, 127, 127), (5, 9, 30, 4, 4, 5, 4),
+    (6, 3, 30, 1, 1, 1, 1), (7, 6, 40, 2, 5, 3, 3),
 )
 
 ODD_NUMBERS = (0, 1, 2, 3, 7, 8, 9, 30, 31, 32, 33, 99, 127, 128, 200, 254,
@@ -39,25 +40,31 @@ def text_of(verb, *numbers):
     return " ".join([verb, *(f"{number:03}" for number in numbers)]).encode()
 
 
+def some_reach(rng, P):
+    """m and n, often small or with P of just m+n."""
+    m = min(P - 1, rng.choice((1, 2, 3, rng.randint(1, min(127, P - 1)))))
+    most = min(127, P - m)
+    return m, min(most, rng.choice((1, 2, 3, most, rng.randint(1, most))))
+
+
 def good_setup(rng):
     if rng.random() < 0.3:
         return rng.choice(EDGE_SETUPS)
     M = rng.choice((1, 1, 1, 2, 2, 3, rng.randint(1, 30)))
     A = M + rng.choice((0, 0, 1, 2, rng.randint(0, 60)))
     P = max(2 * M + 1, A + 1) + rng.choice((0, 0, 0, 1, rng.randint(0, 20)))
-    m = rng.randint(1, min(127, P))
-    n = rng.randint(1, min(127, P + 1 - m))
     L = rng.choice((2, 4, 6, 8, 10, 15, 20, 40, rng.randint(2, 255)))
-    return rng.choice((2, 2, 3, 3, 4, 5, 6, 7, 8)), P, L, M, A, m, n
+    return rng.choice((2, 2, 3, 3, 4, 5, 6, 7, 8)), P, L, M, A, *some_reach(rng, P)
 
 
 def odd_setup(rng):
     """A good setup with one number moved, often just over an edge."""
     D, P, L, M, A, m, n = setup = list(good_setup(rng))
-    if rng.random() < 0.4:
+    if rng.random() < 0.6:
         return rng.choice(((D, P, L, M, M - 1, m, n), (D, 2 * M, L, M, M, 1, 1),
-                           (D, A, L, M, A, 1, 1), (D, m + n - 2, L, 1, 1, m, n),
-                           (D, m + n - 1, L, 1, 1, m, n), (D, P, L, M, P, m, n)))
+                           (D, A, L, M, A, 1, 1), (D, P, L, M, P, m, n),
+                           (D, P, L, M, A, m, P - m), (D, P, L, M, A, m, P + 1 - m),
+                           (D, P, L, M, A, P - n, n), (D, P, L, M, A, P + 1 - n, n)))
     moved = rng.randrange(7)
     setup[moved] = rng.choice((0, 1, 255, 256, 999, setup[moved] - 1,
                                setup[moved] + 1, rng.randint(0, 300)))
@@ -135,12 +142,13 @@ DAMAGES = (
 
 
 class Writer:
-    """A listing in the making, and the run it makes."""
+    """A listing in the making, and the runs it makes; the last one goes on."""
 
     def __init__(self, rng):
         self.rng = rng
         self.lines = []
         self.run = None
+        self.runs = []
 
     def say(self, verb, *numbers):
         """Write a line; hand back the number and values the run answers."""
@@ -153,6 +161,7 @@ class Writer:
         if not line.permitted(*numbers):
             return 2
         self.run = line.Run(*numbers)
+        self.runs.append(self.run)
         return 0
 
     def data(self):
@@ -238,6 +247,7 @@ class Writer:
                        desk, 2 * self.run.M)
         elif number == 13:
             self.clear("drop", self.run.shelf, desk, self.run.A)
+        return number
 
     def clear(self, verb, room, desk, limit):
         for place, event in list(enumerate(room)):
@@ -303,6 +313,35 @@ class Writer:
         for desk in range(self.run.D):
             self.say("keep", desk)
 
+    def resets(self):
+        """Two desks turn, and what they do is kept: resets mostly, and what follows them."""
+        desks = self.rng.sample(range(self.run.D), 2)
+        for _ in range(self.rng.randint(3, 9)):
+            desk = self.rng.choice(desks)
+            if self.turn(desk) != 0:
+                self.turn(desk)
+            self.shelve(desk)
+            if self.rng.random() < 0.4:
+                self.say("local", desk)
+                self.shelve(desk)
+        self.ask_at_the_edges()
+
+    def shelve(self, desk):
+        """Keep; a full shelf is made room on."""
+        if self.say("keep", desk)[0] == 10:
+            self.say("drop", self.rng.randrange(32))
+
+    def ask_at_the_edges(self):
+        """Slots whose difference is at an end of the reach, or just beyond it."""
+        m, n, shelf = self.run.m, self.run.n, self.run.shelf
+        kept = [slot for slot, event in enumerate(shelf) if event]
+        for _ in range(self.rng.randint(5, 15)):
+            d = self.rng.choice((-m - 1, -m, 1 - m, n - 1, n))
+            apart = [(first, second) for first in kept for second in kept
+                     if self.run.difference(shelf[first], shelf[second]) == d]
+            if apart:
+                self.say(self.rng.choice(("before", "compare")), *self.rng.choice(apart))
+
     def ask(self):
         for _ in range(self.rng.randint(4, 20)):
             self.say(self.rng.choice(("before", "compare")), *self.two_slots())
@@ -340,8 +379,8 @@ class Writer:
 
 SCENES = ((Writer.wander, 8), (Writer.sprint, 4), (Writer.rounds, 5),
           (Writer.fill_mail, 2), (Writer.fill_shelf, 1), (Writer.ask, 3),
-          (Writer.odd_numbers, 2), (Writer.bad_lines, 9), (Writer.bad_start, 2),
-          (Writer.new_start, 1))
+          (Writer.resets, 5), (Writer.odd_numbers, 2), (Writer.bad_lines, 9),
+          (Writer.bad_start, 3), (Writer.new_start, 1))
 
 # Input that no run is needed for: ends, lengths and bytes.
 SHORT_LISTINGS = (
@@ -356,7 +395,7 @@ SHORT_LISTINGS = (
 )
 
 
-def listing(seed):
+def written(seed):
     rng = random.Random(seed)
     writer = Writer(rng)
     if rng.random() < 0.2:
@@ -364,12 +403,17 @@ def listing(seed):
         writer.bad_start()
     writer.new_start()
     scenes, weights = zip(*SCENES)
-    favourite = rng.choice((Writer.rounds, Writer.rounds, Writer.sprint, Writer.wander))
+    favourite = rng.choice((Writer.rounds, Writer.rounds, Writer.sprint, Writer.resets,
+                            Writer.wander))
     wanted = rng.randint(100, 250)
     while len(writer.lines) < wanted:
         scene = favourite if rng.random() < 0.3 else rng.choices(scenes, weights)[0]
         scene(writer)
-    return writer.data()
+    return writer
+
+
+def listing(seed):
+    return written(seed).data()
 
 
 if __name__ == "__main__":

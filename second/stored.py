@@ -10,6 +10,7 @@ about records, so lines say only the stamp of case 4 and, of case 10, the same
 differences on the book.
 """
 
+import itertools
 import os
 import sys
 
@@ -49,26 +50,33 @@ RELATIONS = ("before", "after", "same", "concurrent")
 
 
 class Writer(seeds.Writer):
-    """Writes lines of fixed calls, and holds on to every run."""
+    """Writes lines of fixed calls."""
 
     def __init__(self):
         super().__init__(None)
-        self.runs = []
-
-    def start(self, numbers):
-        number = super().start(numbers)
-        if number == book.DONE:
-            self.runs.append(self.run)
-        return number
 
     def raw(self, *texts):
         self.lines += texts
 
+    def kept(self, desk):
+        """The slot that a keep answers."""
+        return self.say("keep", desk)[1][0]
+
+    def question(self, first, second):
+        self.say("before", first, second)
+        self.say("compare", first, second)
+
     def all_two_ways(self, slots):
         for first in slots:
             for second in slots:
-                self.say("before", first, second)
-                self.say("compare", first, second)
+                self.question(first, second)
+
+    def two_ways(self, ones, others):
+        """Each of ones with each of others."""
+        for one in ones:
+            for other in others:
+                self.question(one, other)
+                self.question(other, one)
 
 
 # Before any start
@@ -146,7 +154,7 @@ def case_9(w):
 
 
 def case_10(w):
-    """On the book under X, differences of 0, 1, -1 and 2, -2."""
+    """On the book under X, differences of 0, 1, -1 and 2, -2; the last ones from a reset and its local."""
     w.say("start", *X)
     w.say("local", 0)
     w.say("keep", 0)
@@ -159,7 +167,9 @@ def case_10(w):
     w.say("keep", 1)
     w.say("reset", 0)
     w.say("keep", 0)
-    w.all_two_ways(range(5))
+    w.say("local", 0)
+    w.say("keep", 0)
+    w.all_two_ways(range(6))
 
 
 def case_11_and_12(w):
@@ -196,8 +206,11 @@ def setups(w):
     for setup in ((4, 11, 9, 5, 6, 2, 2), (4, 10, 9, 5, 6, 2, 2),
                   (4, 11, 9, 2, 10, 2, 2), (4, 11, 9, 2, 11, 2, 2),
                   (4, 11, 9, 2, 2, 2, 2), (4, 11, 9, 3, 2, 2, 2),
-                  (4, 11, 9, 2, 2, 6, 6), (4, 11, 9, 2, 2, 6, 7),
-                  (4, 11, 9, 2, 2, 11, 1), (4, 11, 9, 2, 2, 12, 1)):
+                  (4, 11, 9, 2, 2, 6, 5), (4, 11, 9, 2, 2, 6, 6),
+                  (4, 11, 9, 2, 2, 10, 1), (4, 11, 9, 2, 2, 11, 1),
+                  (4, 11, 9, 2, 2, 1, 10), (4, 11, 9, 2, 2, 1, 11),
+                  (4, 3, 9, 1, 1, 1, 2), (4, 3, 9, 1, 1, 2, 2),
+                  (4, 254, 9, 1, 1, 127, 127), (4, 253, 9, 1, 1, 127, 127)):
         w.say("start", *setup)
         w.say("local", 3)
 
@@ -334,7 +347,7 @@ def follow(w):
 
 def mail_behind(w):
     """An old mail must not come back as new."""
-    w.say("start", 3, 3, 60, 1, 2, 2, 2)
+    w.say("start", 3, 3, 60, 1, 2, 1, 2)
     w.say("send", 0, 2)
     for _ in range(3):
         w.say("reset", 0)
@@ -352,7 +365,7 @@ def mail_behind(w):
 
 def shelf_behind(w):
     for A in (1, 2):
-        w.say("start", 3, 3, 60, 1, A, 2, 2)
+        w.say("start", 3, 3, 60, 1, A, 1, 2)
         w.say("local", 1)
         w.say("keep", 1)
         for _ in range(3):
@@ -387,7 +400,7 @@ def lap(w):
 def rings(w):
     """With D from 2 to 8 every ring comes round two or three times."""
     for D in range(2, 9):
-        w.say("start", D, 3, 6, 1, 2, 2, 2)
+        w.say("start", D, 3, 6, 1, 2, 2, 1)
         while turned(w.run) < (3 if D < 5 else 2):
             ring_turn(w, D)
 
@@ -419,7 +432,7 @@ def ring_of_255(w):
 
 
 def reach_of_127(w):
-    """Differences of 126 and 127, each way."""
+    """Differences of 126, 127 and 128, each way."""
     w.say("local", 0)
     w.say("keep", 0)
     for _ in range(126):
@@ -427,8 +440,12 @@ def reach_of_127(w):
     w.say("keep", 0)
     w.say("reset", 0)
     w.say("keep", 0)
-    w.all_two_ways(range(3))
-    for slot in range(3):
+    w.tell(0, 1)
+    w.say("keep", 0)
+    w.say("reset", 0)
+    w.say("keep", 0)
+    w.all_two_ways(range(5))
+    for slot in range(5):
         w.say("drop", slot)
 
 
@@ -447,7 +464,7 @@ def clock_of_255(w):
 
 
 def clock_of_2(w):
-    w.say("start", 2, 5, 2, 2, 4, 3, 3)
+    w.say("start", 2, 5, 2, 2, 4, 3, 2)
     w.say("send", 0, 1)
     w.say("local", 0)
     w.say("local", 1)
@@ -478,7 +495,7 @@ def nought_after_four(w):
 
 def one_way_out_of_reach(w):
     """Out of reach one way is never "concurrent"."""
-    for m, n in ((1, 5), (5, 1), (2, 3)):
+    for m, n in ((1, 4), (4, 1), (2, 3)):
         w.say("start", 3, 5, 20, 2, 4, m, n)
         w.say("local", 0)
         w.say("local", 1)
@@ -496,6 +513,35 @@ def one_way_out_of_reach(w):
         w.all_two_ways(range(6))
 
 
+def reset_edge(w):
+    """From a reset m phases back are within reach, from its local m-1; the ring comes round between."""
+    for P, M, A, m, n in ((3, 1, 2, 1, 2), (4, 1, 3, 2, 2), (5, 2, 4, 3, 2)):
+        w.say("start", 3, P, 60, M, A, m, n)
+        turn_to(w, P - 1)
+        slots = [w.kept(0), w.kept(1)]
+        for _ in range(m + 1):
+            w.say("reset", 0)
+            slots.append(w.kept(0))
+            w.say("local", 0)
+            slots.append(w.kept(0))
+            follow(w)
+        w.two_ways(slots[-2:], slots[:-2])
+
+
+def resets_apart(w):
+    """Two desks turn and hear nothing: each way goes by its own reset or local."""
+    for m, n in ((1, 2), (2, 1)):
+        w.say("start", 2, 7, 4, 3, 6, m, n)
+        for _ in range(m + 1):
+            slots = []
+            for desk in (0, 1):
+                w.say("reset", desk)
+                slots.append(w.kept(desk))
+                w.say("local", desk)
+                slots.append(w.kept(desk))
+            w.two_ways(slots[:2], slots[2:])
+
+
 def unended(w):
     w.say("start", *X)
     w.say("local", 2)
@@ -506,7 +552,7 @@ SECTIONS = (
     case_11_and_12, case_13, setups, odd_numbers, reasons_that_meet, bad_shapes,
     long_lines, full_mail, full_shelf, mail_behind, shelf_behind,
     seats_not_started_count, rings, ring_of_255, clock_of_255, clock_of_2,
-    nought_after_four, one_way_out_of_reach, unended,
+    nought_after_four, one_way_out_of_reach, reset_edge, resets_apart, unended,
 )
 
 
@@ -543,6 +589,7 @@ def check(w, printed):
     lengths = {len(text) for text in w.lines}
     require({0, 64, 65} <= lengths, "the lengths 0, 64 and 65")
     check_runs(w.runs)
+    check_reach(w.runs)
 
 
 def check_runs(runs):
@@ -553,6 +600,14 @@ def check_runs(runs):
         require(any(getattr(run, name) == number and run.events for run in runs),
                 f"{name} of {number}")
     require(any(run.P == 255 and turned(run) >= 1 for run in runs), "a ring of 255")
+
+
+def check_reach(runs):
+    """Back to m-1, m and m+1 phases, from a reset and from others, with n below, at and above m."""
+    seen = {(e.is_reset, run.m + run.difference(e, f), (run.n > run.m) - (run.n < run.m))
+            for run in runs for e in run.shelf for f in run.shelf if e and f}
+    wanted = set(itertools.product((False, True), (1, 0, -1), (-1, 0, 1)))
+    require(wanted <= seen, f"the reach at {wanted - seen}")
 
 
 def turned(run):

@@ -1,11 +1,13 @@
 """Tests of the second opinion itself: python3 second/test_second.py
 
-The example and the cases of docs/RULES.md; that the fixed seeds and the stored
-listing find each error the desks would make; and that the runners report.
+The example and the cases of docs/RULES.md; that the reach in phases is the reach
+by resets; that the fixed seeds and the stored listing find each error the desks
+would make; and that the runners report.
 """
 
 import contextlib
 import io
+import itertools
 import os
 import sys
 import unittest
@@ -13,7 +15,7 @@ from unittest import mock
 
 sys.path.insert(0, os.path.dirname(os.path.dirname(os.path.abspath(__file__))))
 
-from second import book, compare, listing, raw, seeds, stored
+from second import book, compare, line, listing, raw, seeds, stored
 
 X = book.Setup(3, 5, 4, 2, 4, 2, 2)
 
@@ -45,6 +47,20 @@ class Cases(unittest.TestCase):
         self.assertEqual(book.start(zero, *X)[0], book.DONE)
         self.assertEqual(book.start(zero, *X._replace(P=4)), (book.BAD_SETUP, (), zero))
         self.assertEqual(book.start(zero, *X._replace(A=1)), (book.BAD_SETUP, (), zero))
+
+    def test_P_is_at_least_m_and_n(self):
+        for P, m, n, number in ((3, 1, 2, book.DONE), (3, 2, 1, book.DONE),
+                                (3, 2, 2, book.BAD_SETUP), (3, 1, 3, book.BAD_SETUP),
+                                (4, 2, 2, book.DONE), (4, 1, 3, book.DONE),
+                                (254, 127, 127, book.DONE), (253, 127, 127, book.BAD_SETUP)):
+            setup = book.Setup(2, P, 2, 1, 1, m, n)
+            e = label(0, (0, 1), (0, 0), setup=setup)
+            self.assertEqual(book.start(bytes(book.BOOK_BYTES), *setup)[0], number)
+            self.assertEqual(book.label_before(setup, e, e)[0], number)
+            self.assertEqual(line.permitted(*setup), number == book.DONE)
+            given = bytearray(fresh(setup._replace(m=1, n=1)))
+            given[7:9] = m, n
+            self.assertEqual(book.sound(given), number == book.DONE)
 
     def test_3_and_4_stamp_and_record(self):
         _, (stamp,), after = calls(fresh(), ("local", 0))
@@ -81,15 +97,31 @@ class Cases(unittest.TestCase):
             self.assertEqual(book.later_pair(given, 1, *pairs)[0], later)
             self.assertEqual(book.later_pair(given, 1, *pairs[::-1])[0], later)
 
-    def test_10_reach_off_the_book(self):
-        e = label(0, (0, 1), (0, 0), (0, 0))
-        read = book.read_stamp(X, e)
-        for r, d in ((0, 0), (1, 1), (2, None), (3, None), (4, -1)):
+    def reaches_off_the_book(self, e, differences):
+        """The differences from e under X, for each r in turn."""
+        for r, d in enumerate(differences):
             f = label(1, (r, 0), (0, 1), (0, 0))
-            self.assertEqual(
-                book.difference_off_book(X, read, book.read_stamp(X, f)), d)
+            read = book.read_stamp(X, e), book.read_stamp(X, f)
+            self.assertEqual(book.difference_off_book(X, *read), d)
             number = book.DONE if d is not None else book.OUT_OF_REACH
             self.assertEqual(book.label_before(X, e, f)[0], number)
+
+    def test_10_reach_off_the_book(self):
+        self.reaches_off_the_book(label(0, (0, 1), (0, 0), (0, 0)), (0, 1, None, None, -1))
+
+    def test_reach_of_a_reset_off_the_book(self):
+        e, f = label(0, (0, 0), (0, 0), (0, 0)), label(0, (3, 1), (0, 0), (0, 0))
+        self.reaches_off_the_book(e, (0, 1, None, -2, -1))
+        self.assertEqual(book.label_before(X, e, f), (0, (False,)))
+        self.assertEqual(book.label_before(X, f, e), (book.OUT_OF_REACH, ()))
+        self.assertEqual(book.label_compare(X, e, f), (book.OUT_OF_REACH, ()))
+        self.assertEqual(book.label_compare(X, f, e), (book.OUT_OF_REACH, ()))
+
+    def test_lopsided_reach_off_the_book(self):
+        for m, n, answer in ((1, 3, "crossed"), (3, 1, "concurrent")):
+            setup = book.Setup(2, 4, 2, 1, 1, m, n)
+            e, f = (label(0, (phase, 1), (0, 0), setup=setup) for phase in (0, 2))
+            self.assertEqual(book.label_compare(setup, e, f), (0, (answer,)))
 
     def test_11_kept_twice(self):
         given = calls(fresh(), ("local", 0), ("keep", 0), ("keep", 0))[2]
@@ -109,14 +141,28 @@ class Cases(unittest.TestCase):
         given = calls(fresh(), *steps, ("reset", 0), ("keep", 0))[2]
         self.assertEqual(book.compare(given, 0, 1)[:2], (book.OUT_OF_REACH, ()))
 
+    def test_reach_of_a_reset_on_the_book(self):
+        steps = [("local", 0), ("keep", 0), ("local", 1), ("keep", 1)]
+        steps += [("reset", 0)] * 2 + [("keep", 0), ("local", 0), ("keep", 0)]
+        given = calls(fresh(), *steps)[2]
+        for other in (0, 1):
+            self.assertEqual(book.before(given, 2, other)[:2], (0, (False,)))
+            self.assertEqual(book.before(given, 3, other)[:2], (book.OUT_OF_REACH, ()))
+        for first, second, answer in ((2, 1, (0, ("concurrent",))), (3, 1, (16, ())), (2, 0, (16, ()))):
+            self.assertEqual(book.compare(given, first, second)[:2], answer)
+            self.assertEqual(book.compare(given, second, first)[:2], answer)
+
     def test_newest(self):
         old, new = label(0, (4, 3), (0, 0), (0, 0)), label(0, (0, 0), (0, 0), (0, 0))
+        later = label(0, (0, 1), (0, 0), (0, 0))
         apart = label(1, (3, 0), (0, 1), (0, 0))
         self.assertEqual(book.label_newest(X, old, new), (0, (2,)))
         self.assertEqual(book.label_newest(X, new, old), (0, (1,)))
         self.assertEqual(book.label_newest(X, new, new), (0, (1,)))
         self.assertEqual(book.label_newest(X, old, apart), (0, (0,)))
-        self.assertEqual(book.label_newest(X, new, apart), (book.OUT_OF_REACH, ()))
+        # Two phases back: within reach from a reset, not from the local after it.
+        self.assertEqual(book.label_newest(X, new, apart), (0, (0,)))
+        self.assertEqual(book.label_newest(X, later, apart), (book.OUT_OF_REACH, ()))
         self.assertEqual(book.label_newest(X, new, new[:19]), (book.BAD_STAMP, ()))
         self.assertEqual(book.label_newest(X._replace(P=4), b"", b""), (book.BAD_SETUP, ()))
 
@@ -127,6 +173,42 @@ class Cases(unittest.TestCase):
             self.assertEqual(book.send(given, 0, big)[0], book.NO_DESK)
             self.assertEqual(book.receive(given, 0, big)[0], book.NO_PLACE)
             self.assertEqual(book.before(given, 0, big)[0], book.NO_PLACE)
+
+
+# The reach by the resets themselves, against the reach in phases.
+
+def resets_about(run, e):
+    """The m-th reset before e at its desk and the n-th after it; None where there are fewer."""
+    resets = [event for event in run.events if event.is_reset and event.desk == e.desk]
+    before = [reset for reset in resets if run.leads(reset, e)]
+    after = [reset for reset in resets if run.leads(e, reset)]
+    return (before[-run.m] if run.m <= len(before) else None,
+            after[run.n - 1] if run.n <= len(after) else None)
+
+
+def reached(first, last, f):
+    """The first is f or leads to f, as the beginning does to all; the last does neither."""
+    return (first is None or first in f.past) and (last is None or last not in f.past)
+
+
+class Reach(unittest.TestCase):
+    def test_phases_count_resets(self):
+        seen = set()
+        for seed in range(1, 101):
+            for run in seeds.written(seed).runs:
+                for e in run.events:
+                    seen |= self.hold(run, e)
+        edges = itertools.product((False, True), ("back", "ahead"), (-1, 0, 1))
+        self.assertLessEqual(set(edges), seen)
+
+    def hold(self, run, e):
+        """How far the events are from each edge, by the kind of e."""
+        first, last = resets_about(run, e)
+        for f in run.events:
+            self.assertEqual(run.within_reach(e, f), reached(first, last, f))
+        differences = {run.difference(e, f) for f in run.events}
+        return ({(e.is_reset, "back", run.m + d) for d in differences}
+                | {(e.is_reset, "ahead", run.n - d) for d in differences})
 
 
 class Text(unittest.TestCase):
@@ -158,7 +240,9 @@ class Stored(unittest.TestCase):
 
 TRUE = {name: getattr(book, name) for name in
         ("receive", "reset_number", "merge", "later_pair", "answer_compare",
-         "says_before", "row_sound", "used_place_sound")}
+         "says_before", "row_sound", "used_place_sound", "reach", "compare",
+         "label_compare", "difference_on_book", "difference_off_book", "permitted",
+         "start", "sound", "read_both")}
 
 
 def lag_without_adding_P(own, phase, P):
@@ -239,12 +323,79 @@ def to_oneself_is_sound(given, at, setup):
     return TRUE["used_place_sound"](given, at, setup) or given[at + 2] == given[at + 3]
 
 
+# The reach from e to f, back and ahead.
+
+def no_reset_is_known(setup, e, f):
+    return setup.m - 1, setup.n - 1
+
+
+def all_reach_like_resets(setup, e, f):
+    return setup.m, setup.n - 1
+
+
+def resets_reach_ahead(setup, e, f):
+    return setup.m - 1, setup.n if book.is_reset(e) else setup.n - 1
+
+
+def the_other_is_asked(setup, e, f):
+    return TRUE["reach"](setup, f)
+
+
+def the_clock_seen_is_asked(setup, e, f):
+    return TRUE["reach"](setup, book.Stamp(e.owner, f.row))
+
+
+REACHES = (no_reset_is_known, all_reach_like_resets, resets_reach_ahead, the_other_is_asked,
+           the_clock_seen_is_asked)
+
+
+def by_reach(name, reach):
+    """An error: the difference of that name, on the book or off it, goes by another reach."""
+    def difference(given, e, f):
+        with mock.patch.object(book, "reach", lambda setup, _: reach(setup, e, f)):
+            return TRUE[name](given, e, f)
+    difference.__name__ = f"{name}: {reach.__name__}"
+    return name, difference
+
+
+def the_first_is_asked_both_ways(given, first, second):
+    if book.slots_number(given, first, second) != book.DONE:
+        return TRUE["compare"](given, first, second)
+    e = book.stamp_of_slot(given, first)
+    with mock.patch.object(book, "reach", lambda setup, _: TRUE["reach"](setup, e)):
+        return TRUE["compare"](given, first, second)
+
+
+def the_first_label_is_asked_both_ways(setup, first, second):
+    e = book.read_both(setup, first, second)[2]
+    with mock.patch.object(book, "reach", lambda setup, _: TRUE["reach"](setup, e)):
+        return TRUE["label_compare"](setup, first, second)
+
+
+def a_phase_short(setup):
+    """P of m+n-1 is permitted too."""
+    D, P, L, M, A, m, n = setup
+    return (TRUE["permitted"]((D, P, L, M, A, 1, 1)) and 1 <= m <= 127 and 1 <= n <= 127
+            and P >= m + n - 1)
+
+
+def a_phase_short_for(name):
+    """An error: so it is where that part asks it, and nowhere else."""
+    def part(*given):
+        with mock.patch.object(book, "permitted", a_phase_short):
+            return TRUE[name](*given)
+    part.__name__ = f"{name}: {a_phase_short.__name__}"
+    return name, part
+
+
 ERRORS = (
     ("lag_behind", lag_without_adding_P), ("lag_behind", own_above_v_subtracts),
     ("later_pair", larger_byte_is_later), ("says_before", nought_is_never_seen),
     ("receive", place_stays_used), ("receive", refused_receipt_frees),
     ("reset_number", only_seats_are_checked), ("merge", own_phase_from_mail),
-    ("answer_compare", unreachable_is_concurrent),
+    ("answer_compare", unreachable_is_concurrent), ("permitted", a_phase_short),
+    ("compare", the_first_is_asked_both_ways),
+    *(by_reach("difference_on_book", reach) for reach in REACHES),
 )
 
 # The last six no listing can show: they need books that no run reaches.
@@ -252,37 +403,46 @@ RAW_ERRORS = (
     ("lag_behind", lag_without_adding_P), ("lag_behind", own_above_v_subtracts),
     ("later_pair", larger_byte_is_later), ("says_before", nought_is_never_seen),
     ("receive", place_stays_used), ("reset_number", only_seats_are_checked),
-    ("answer_compare", unreachable_is_concurrent),
+    ("answer_compare", unreachable_is_concurrent), ("compare", the_first_is_asked_both_ways),
+    ("label_compare", the_first_label_is_asked_both_ways),
+    *(by_reach("difference_on_book", reach) for reach in REACHES),
+    *(by_reach("difference_off_book", reach) for reach in REACHES),
+    *(a_phase_short_for(name) for name in ("start", "sound", "read_both")),
     ("later_pair", nought_is_nothing), ("merge", own_entry_is_merged),
     ("row_sound", any_filler), ("row_sound", one_more_lag),
     ("row_sound", phases_come_round), ("used_place_sound", to_oneself_is_sound),
 )
 
 
-def answers_with(name, error, data):
-    """The answers of a program that makes an error and checks nothing."""
+def is_found(name, error, data, expected):
+    """Does a program that makes an error and checks nothing answer some line otherwise?"""
+    program = listing.Program()
+    lines = zip(listing.lines_of(data), listing.lines_of(expected))
     with mock.patch.object(book, name, error), \
             mock.patch.object(listing.Program, "hold", lambda *_: None):
-        return listing.answers(data)
+        return any(program.answer(text).encode() != answer for text, answer in lines)
 
 
 class Errors(unittest.TestCase):
     def test_stored_listing_finds_each(self):
         data, expected = stored.data(), stored.expected()
         for name, error in ERRORS:
-            self.assertNotEqual(answers_with(name, error, data), expected, error.__name__)
+            self.assertTrue(is_found(name, error, data, expected), error.__name__)
 
     def test_seeds_find_each(self):
         known = [(data, listing.answers(data)) for data in map(seeds.listing, range(1, 41))]
         for name, error in ERRORS:
-            self.assertTrue(any(answers_with(name, error, data) != expected
-                                for data, expected in known), error.__name__)
+            self.assertTrue(any(is_found(name, error, *one) for one in known), error.__name__)
 
     def test_the_two_routes_disagree(self):
-        for name, error in ERRORS:
+        data = stored.data()
+        # Off the book nothing is held where the run is out of reach, so a reach too wide stays unseen.
+        off_book = [by_reach("difference_off_book", reach) for reach in REACHES
+                    if reach is not all_reach_like_resets]
+        for name, error in (*ERRORS, *off_book):
             with mock.patch.object(book, name, error), \
                     self.assertRaises(listing.Disagree, msg=error.__name__):
-                listing.answers(stored.data())
+                listing.answers(data)
 
 
 # The runners
@@ -364,8 +524,17 @@ POSSIBLE = {
 
 
 class Raw(unittest.TestCase):
+    @classmethod
+    def setUpClass(cls):
+        """The same calls for every library, made once."""
+        cls.batches = list(raw.batches(raw.DEFAULT_CALLS, 1))
+
+    def compare(self, library):
+        with mock.patch.object(raw, "batches", lambda *_: self.batches):
+            return raw.compare(library, raw.DEFAULT_CALLS, 1)
+
     def test_every_number_of_every_call(self):
-        seen = raw.compare(stand_in_library(), raw.DEFAULT_CALLS, 1)
+        seen = self.compare(stand_in_library())
         for name, numbers in POSSIBLE.items():
             self.assertEqual({key[1] for key in seen if key[0] == name}, numbers, name)
         for name in ("compare", "label_compare"):
@@ -373,7 +542,7 @@ class Raw(unittest.TestCase):
 
     def found(self, library, *parts):
         with contextlib.redirect_stdout(io.StringIO()) as told:
-            self.assertIsNone(raw.compare(library, raw.DEFAULT_CALLS, 1))
+            self.assertIsNone(self.compare(library))
         for part in parts:
             self.assertIn(part, told.getvalue())
 

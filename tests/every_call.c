@@ -45,7 +45,9 @@ static void start(void)
     REFUSED(BAD_BOOK, gulambitok_start(now.book, sizeof now.book - 1, X));
     REFUSED(BAD_SETUP, gulambitok_start(BOOK, 3, 4, 4, 2, 4, 2, 2));
     REFUSED(BAD_SETUP, gulambitok_start(BOOK, 256 + 3, 5, 4, 2, 4, 2, 2));
+    REFUSED(BAD_SETUP, gulambitok_start(BOOK, 3, 5, 4, 2, 4, 3, 3));
     REFUSED(BAD_BOOK, gulambitok_local(BOOK, 0, now.stamp, 20));
+    DONE(gulambitok_start(BOOK, 3, 5, 4, 2, 4, 3, 2));
     DONE(gulambitok_start(BOOK, X));
     EXPECT(memcmp(now.book, "BK\3\5\4\2\4\2\2\0\0\0\0\0\0\0SE", 18) == 0);
 }
@@ -110,6 +112,7 @@ static void reset_and_labels(void)
     DONE(gulambitok_reset(BOOK, 0, now.second, 20));
     EXPECT(memcmp(now.second, "ST\0\3\1\0\0\0", 8) == 0);
     REFUSED(BAD_SETUP, gulambitok_label_before(3, 4, 4, 2, 4, 2, 2, NULL, 0, NULL, 0, NULL, 0));
+    REFUSED(BAD_SETUP, gulambitok_label_before(3, 5, 4, 2, 4, 3, 3, NULL, 0, NULL, 0, NULL, 0));
     REFUSED(BAD_STAMP, gulambitok_label_before(X, now.first, 21, now.second, 20, NULL, 0));
     REFUSED(NO_ROOM, gulambitok_label_before(X, now.first, 20, now.second, 20, NULL, 0));
     DONE(gulambitok_label_before(X, now.first, 20, now.second, 20, now.answer, 1));
@@ -125,6 +128,28 @@ static void reset_and_labels(void)
     DONE(gulambitok_reset(BOOK, 0, now.second, 20));
     REFUSED(SEAT_BEHIND, gulambitok_reset(BOOK, 0, NULL, 0));
     REFUSED(OUT_OF_REACH, gulambitok_label_newest(X, now.first, 20, now.second, 20, now.answer, 1));
+}
+
+/* Desk 0's reset to 2.0 goes to slot 2, its local 2.1 to slot 3; slots 0 and 1 are two phases back. */
+static void reset_edge(void)
+{
+    DONE(gulambitok_keep(BOOK, 0, now.slot, 1));
+    EXPECT(now.slot[0] == 2);
+    DONE(gulambitok_before(BOOK, 2, 0, now.answer, 1));
+    EXPECT(now.answer[0] == 0);
+    DONE(gulambitok_compare(BOOK, 2, 1, now.answer, 1));
+    EXPECT(now.answer[0] == GULAMBITOK_CONCURRENT);
+    DONE(gulambitok_label_before(X, now.second, 20, now.first, 20, now.answer, 1));
+    EXPECT(now.answer[0] == 0);
+    REFUSED(OUT_OF_REACH, gulambitok_before(BOOK, 0, 2, now.answer, 1));
+    REFUSED(OUT_OF_REACH, gulambitok_compare(BOOK, 2, 0, now.answer, 1));
+    REFUSED(OUT_OF_REACH, gulambitok_label_compare(X, now.second, 20, now.first, 20, now.answer, 1));
+    DONE(gulambitok_local(BOOK, 0, now.second, 20));
+    DONE(gulambitok_keep(BOOK, 0, now.slot, 1));
+    EXPECT(now.slot[0] == 3);
+    REFUSED(OUT_OF_REACH, gulambitok_before(BOOK, 3, 0, now.answer, 1));
+    REFUSED(OUT_OF_REACH, gulambitok_compare(BOOK, 1, 3, now.answer, 1));
+    REFUSED(OUT_OF_REACH, gulambitok_label_before(X, now.second, 20, now.first, 20, now.answer, 1));
     DONE(gulambitok_drop(BOOK, 0));
     REFUSED(NO_PLACE, gulambitok_drop(BOOK, 0));
 }
@@ -138,5 +163,6 @@ int main(void)
     send_and_receive();
     shelf();
     reset_and_labels();
+    reset_edge();
     return wrong;
 }

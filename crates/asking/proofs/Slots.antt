@@ -58,14 +58,15 @@ module _ (s : List ℕ) (h : sound s ≡ true) (i k : ℕ) (n : noSlot (tablesOf
     desk = omega (arith, same, slot-eight s i n h)
 
     gap-lags : gapFrom (ringOf (setupOf s)) (setupOf s) (tablesOf s) i k
-        ≡ near (setupOf s) (record { up = lagIn s j (shelfFrom + i); down = lagIn s j (shelfFrom + k) })
+        ≡ near (setupOf s) (byte s (spot (shelfFrom + i) (rowSpot + clockSpot j)))
+        (record { up = lagIn s j (shelfFrom + i); down = lagIn s j (shelfFrom + k) })
     gap-lags =
         let by : byte s (spot (shelfFrom + i) tagASpot) - 1 ≡ j = sym (same ∙ slot-by s i n) in
         (λ t. gapHeld (ringOf (setupOf s)) (setupOf s) (tablesOf s) (slot-held s i n t) (slot-held s k m t))
         ∙ ap (λ (d : ℕ). gap (ringOf (setupOf s)) (setupOf s) (tablesOf s) d (readRow (rowAt s (shelfFrom + i)))
         (readRow (rowAt s (shelfFrom + k)))) by
         ∙ (λ t.
-        near (setupOf s)
+        near (setupOf s) (read-at (rowAt s (shelfFrom + i)) j desk t .clock)
         (lagGap (ringOf (setupOf s)) (own-at s j desk t .phase) (read-at (rowAt s (shelfFrom + i)) j desk t)
         (read-at (rowAt s (shelfFrom + k)) j desk t)))
 
@@ -79,7 +80,7 @@ module _ (s : List ℕ) (h : sound s ≡ true) (i k : ℕ) (n : noSlot (tablesOf
         → WayBetween s i k (record { up = up; down = down; from = from; to = to })
     way-lags up down from to u d f t =
         record {
-          gap = gap-lags ∙ (λ x. near (setupOf s) (record { up = sym u x; down = sym d x }));
+          gap = gap-lags ∙ (λ x. near (setupOf s) (sym f x) (record { up = sym u x; down = sym d x }));
           clocks = record { from = f ∙ clock-at i n; to = t ∙ clock-at k m };
         }
 

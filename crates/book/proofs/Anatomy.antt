@@ -26,7 +26,7 @@ use Rattle.tools.specs.Tables.{put}
 use Rattle.tools.proofs.Tests.{not-each}
 use Rattle.rules.specs.declared.Setup.{Setup}
 use Rattle.rules.specs.Setups.{permits, inRange, related}
-use Rattle.rules.specs.Model.{Row, idle}
+use Rattle.rules.specs.Model.{Row, idle, reachBack}
 use Rattle.rules.specs.Calls.{Book, Call, start, on, call}
 use Rattle.rules.specs.Labels.{reads, beforeOff, compareOff}
 use Rattle.rules.specs.Replies.{rowByte}
@@ -122,7 +122,7 @@ pub record-numbers : (beforeOf X kept kept .number
     ∷ beforeOf X (take 19 kept) kept .number
     ∷ compareOf X kept (set kept 2 3) .number
     ∷ []) ≡ 0 ∷ 14 ∷ 14 ∷ []
-unfolding beforeOff compareOff permits inRange related within readStamp readOk allOf allBelow pairReads
+unfolding reachBack beforeOff compareOff permits inRange related within readStamp readOk allOf allBelow pairReads
 record-numbers = refl
 
 -- on any bytes of that length, whatever they say

@@ -1,7 +1,8 @@
--- The starred cases that need no bytes, the listing of the rules, a run for each error that the desks would make, and for each
--- refusal that these leave out. Refusals are by their literal numbers.
+-- The starred cases that need no bytes, the listing of the rules, a run for each error that the desks would make, runs that ask of
+-- resets, and one for each refusal that these leave out. Refusals are by their literal numbers.
 -- Assumes nothing.
 --   setupWith P A     the setup of the cases with a ring of P, and kept stamps that may lag A; X, that with 5 and 4
+--   uneven            X with a reach of one phase back and three ahead
 --   narrow, small     two desks that may lag one phase, as in the listing; the same with clocks and a reach to spare
 --   pair v t          the pair v.t
 --   Made, Shown       a stamp, and a value, as the listing shows it
@@ -19,15 +20,17 @@
 --   told-by p         desk 0 resets and tells desk 1 of it by the place p
 --   told-lines p v t  the lines of that: v the phase that desk 0 comes to, t the clock of desk 1
 --   errors            a run for each error that the desks would make; that of a received mail's place is case 12
+--   resets            runs that ask of resets, which reach a phase further back, and of other events
 --   upTo n            the numbers below n
 --   room              runs on places and slots: full ones, freed ones, and a stamp written or kept too long
 --   all               all of these
 --   laterOf own       the later of phases 4 and 0 in either order, on a ring of 5, at that own phase
 --   apart up down     a difference within reach
---   stampAt v         a stamp of desk 0 with the phase v
+--   stampAt v t       a stamp of desk 0 with the pairs v.t
+--   reachFrom v t     the differences from that stamp to those of the phases vs, off the book; numbersFrom, the numbers of before
 --   Cases             the one statement: every case is answered as its lines say, whatever book it begins on
 use mathlib.Core.Path.{_≡_}
-use mathlib.Core.Bool.{Bool, false}
+use mathlib.Core.Bool.{Bool, true, false}
 use mathlib.Core.Option.{Option, none, some}
 use mathlib.Core.List.{List, [], _∷_, _++_, map}
 use Prim.Native.Nat.{ℕ, zero, suc, _+_}
@@ -36,7 +39,7 @@ use Rattle.tools.specs.Lists.{tab}
 use Rattle.ring.specs.Phases.{Pair, Gap, ring, later}
 use Rattle.rules.specs.declared.Setup.{Setup}
 use Rattle.rules.specs.declared.Relation.{Relation}
-use Rattle.rules.specs.declared.Relation.the-variants.{Before, Same, Concurrent}
+use Rattle.rules.specs.declared.Relation.the-variants.{Before, After, Same, Concurrent}
 use Rattle.rules.specs.Model.{Row, Label, before, compare, write, local, reset, keep, drop, discard, send, receive, Value}
 use Rattle.rules.specs.Calls.{Book, Call, start, on, Turn, ringOf}
 use Rattle.rules.specs.Labels.{gapOff, beforeOff}
@@ -47,6 +50,9 @@ setupWith P A = record { desks = 3; phases = P; clocks = 4; seatLag = 2; shelfLa
 
 abbrev pub X : Setup
 X = setupWith 5 4
+
+abbrev pub uneven : Setup
+uneven = record { desks = 3; phases = 5; clocks = 4; seatLag = 2; shelfLag = 4; back = 1; ahead = 3 }
 
 abbrev pub narrow : Setup
 narrow = record { desks = 2; phases = 3; clocks = 3; seatLag = 1; shelfLag = 1; back = 1; ahead = 1 }
@@ -185,7 +191,7 @@ listing =
     ∷ [])
 
 abbrev pub small : Setup
-small = record { desks = 2; phases = 3; clocks = 99; seatLag = 1; shelfLag = 1; back = 2; ahead = 2 }
+small = record { desks = 2; phases = 3; clocks = 99; seatLag = 1; shelfLag = 1; back = 1; ahead = 2 }
 
 abbrev pub told-by : ℕ → List Call
 told-by p = on (reset 0) ∷ on (send 0 1) ∷ on (receive 1 p) ∷ []
@@ -220,15 +226,78 @@ errors =
     ∷ told (made 1 (pair 0 0 ∷ pair 0 1 ∷ []))
     ∷ told (made 1 (pair 0 1 ∷ pair 0 2 ∷ []))
     ∷ [])
-    -- giving "concurrent" when one direction is out of reach: at desk 1 the difference is 0, at desk 0 it is 2, OutOfReach
+    -- giving "concurrent" when one direction is out of reach: at desk 1 the difference is 0, at desk 0 it is -2, OutOfReach
     ∷ opened X
-    (on (local 1) ∷ on (keep 1) ∷ on (reset 0) ∷ on (reset 0) ∷ on (keep 0) ∷ on (before 0 1) ∷ on (compare 0 1) ∷ [])
+    (on (local 1)
+    ∷ on (keep 1)
+    ∷ on (reset 0)
+    ∷ on (reset 0)
+    ∷ on (local 0)
+    ∷ on (keep 0)
+    ∷ on (before 0 1)
+    ∷ on (compare 0 1)
+    ∷ [])
     (told (made 1 (pair 0 0 ∷ pair 0 1 ∷ pair 0 0 ∷ []))
     ∷ told (inSlot 0)
     ∷ told (made 0 (pair 1 0 ∷ pair 0 0 ∷ pair 0 0 ∷ []))
     ∷ told (made 0 (pair 2 0 ∷ pair 0 0 ∷ pair 0 0 ∷ []))
+    ∷ told (made 0 (pair 2 1 ∷ pair 0 0 ∷ pair 0 0 ∷ []))
     ∷ told (inSlot 1)
     ∷ told (word false)
+    ∷ refused 16
+    ∷ [])
+    ∷ []
+
+abbrev pub resets : List Case
+resets =
+    -- from the reset 2.0 a difference of -2 is within reach, from the local 2.1 it is not; ahead 2 is beyond it from the local 0.1
+    opened X
+    (on (local 0)
+    ∷ on (keep 0)
+    ∷ on (reset 0)
+    ∷ on (reset 0)
+    ∷ on (keep 0)
+    ∷ on (local 0)
+    ∷ on (keep 0)
+    ∷ on (before 1 0)
+    ∷ on (before 2 0)
+    ∷ on (before 0 1)
+    ∷ on (compare 1 0)
+    ∷ [])
+    (told (made 0 (pair 0 1 ∷ pair 0 0 ∷ pair 0 0 ∷ []))
+    ∷ told (inSlot 0)
+    ∷ told (made 0 (pair 1 0 ∷ pair 0 0 ∷ pair 0 0 ∷ []))
+    ∷ told (made 0 (pair 2 0 ∷ pair 0 0 ∷ pair 0 0 ∷ []))
+    ∷ told (inSlot 1)
+    ∷ told (made 0 (pair 2 1 ∷ pair 0 0 ∷ pair 0 0 ∷ []))
+    ∷ told (inSlot 2)
+    ∷ told (word false)
+    ∷ refused 16
+    ∷ refused 16
+    ∷ refused 16
+    ∷ [])
+    -- where more is permitted ahead than back, two resets one phase apart compare; each way goes by its own first stamp
+    ∷ opened uneven
+    (on (reset 0)
+    ∷ on (keep 0)
+    ∷ on (reset 0)
+    ∷ on (keep 0)
+    ∷ on (local 0)
+    ∷ on (keep 0)
+    ∷ on (compare 0 1)
+    ∷ on (compare 1 0)
+    ∷ on (before 0 2)
+    ∷ on (compare 0 2)
+    ∷ [])
+    (told (made 0 (pair 1 0 ∷ pair 0 0 ∷ pair 0 0 ∷ []))
+    ∷ told (inSlot 0)
+    ∷ told (made 0 (pair 2 0 ∷ pair 0 0 ∷ pair 0 0 ∷ []))
+    ∷ told (inSlot 1)
+    ∷ told (made 0 (pair 2 1 ∷ pair 0 0 ∷ pair 0 0 ∷ []))
+    ∷ told (inSlot 2)
+    ∷ told (stands Before)
+    ∷ told (stands After)
+    ∷ told (word true)
     ∷ refused 16
     ∷ [])
     ∷ []
@@ -302,7 +371,7 @@ room =
     ∷ []
 
 abbrev pub all : List Case
-all = starred ++ listing ∷ errors ++ room
+all = starred ++ listing ∷ errors ++ resets ++ room
 
 abbrev pub laterOf : ℕ → List Pair
 laterOf own = later (ring 5) own (pair 4 0) (pair 0 0) ∷ later (ring 5) own (pair 0 0) (pair 4 0) ∷ []
@@ -310,15 +379,22 @@ laterOf own = later (ring 5) own (pair 4 0) (pair 0 0) ∷ later (ring 5) own (p
 abbrev pub apart : ℕ → ℕ → Option Gap
 apart up down = some record { up = up; down = down }
 
-abbrev pub stampAt : ℕ → Label
-stampAt v = record { owner = 0; row = λ k. pair v 0 }
+abbrev pub stampAt : ℕ → ℕ → Label
+stampAt v t = record { owner = 0; row = λ k. pair v t }
+
+abbrev pub reachFrom : ℕ → ℕ → List ℕ → List (Option Gap)
+reachFrom v t vs = map (λ u. gapOff X 0 (stampAt v t .row) (stampAt u 1 .row)) vs
+
+abbrev pub numbersFrom : ℕ → ℕ → List ℕ → List ℕ
+numbersFrom v t vs = map (λ u. beforeOff X (some (stampAt v t)) (some (stampAt u 1)) .number) vs
 
 pub record Cases : Type 0 where
   pub runs : (b : Book) → map (answers b) all ≡ map (λ (c : Case). c .lines) all
   -- 9
   pub newest : (laterOf 0 ≡ (pair 0 0 ∷ pair 0 0 ∷ [])) × (laterOf 4 ≡ (pair 4 0 ∷ pair 4 0 ∷ []))
-  -- 10: r of 0, 1, 4, 2, 3
-  pub reach : map (λ v. gapOff X 0 (stampAt 3 .row) (stampAt v .row)) (3 ∷ 4 ∷ 2 ∷ 0 ∷ 1 ∷ [])
-      ≡ (apart 0 0 ∷ apart 1 0 ∷ apart 0 1 ∷ none ∷ none ∷ [])
-  pub numbers : map (λ v. beforeOff X (some (stampAt 3)) (some (stampAt v)) .number) (3 ∷ 4 ∷ 2 ∷ 0 ∷ 1 ∷ [])
-      ≡ (0 ∷ 0 ∷ 0 ∷ 16 ∷ 16 ∷ [])
+  -- 10: r of 0, 1, 4, 3, 2, of an e that is no reset
+  pub reach : reachFrom 3 1 (3 ∷ 4 ∷ 2 ∷ 1 ∷ 0 ∷ []) ≡ (apart 0 0 ∷ apart 1 0 ∷ apart 0 1 ∷ none ∷ none ∷ [])
+  pub numbers : numbersFrom 3 1 (3 ∷ 4 ∷ 2 ∷ 1 ∷ 0 ∷ []) ≡ (0 ∷ 0 ∷ 0 ∷ 16 ∷ 16 ∷ [])
+  -- and of a reset e
+  pub resetReach : reachFrom 3 0 (3 ∷ 4 ∷ 2 ∷ 1 ∷ 0 ∷ []) ≡ (apart 0 0 ∷ apart 1 0 ∷ apart 0 1 ∷ apart 0 2 ∷ none ∷ [])
+  pub resetNumbers : numbersFrom 3 0 (3 ∷ 4 ∷ 2 ∷ 1 ∷ 0 ∷ []) ≡ (0 ∷ 0 ∷ 0 ∷ 0 ∷ 16 ∷ [])

@@ -46,10 +46,10 @@ use Rattle.comparing.proofs.Ways.{before-is, relation-is}
 
 -- by the way there
 module _ (X : Setup) (g : Option Gap) (j k : ℕ) (e f : Row) (w : Way) (there : WayOf X g j e f w) where
-  pub before-out : isOut (near X (gapOf w)) ≡ true → refusal (number OutOfReach) ≡ beforeBy g j k e f
+  pub before-out : isOut (near X (w .from) (gapOf w)) ≡ true → refusal (number OutOfReach) ≡ beforeBy g j k e f
   before-out o = rw (ap isOut (there .gap) ∙ o)
 
-  pub before-told : isOut (near X (gapOf w)) ≡ false → (t : Bool) → t ≡ isBefore (gapOf w) j k e f
+  pub before-told : isOut (near X (w .from) (gapOf w)) ≡ false → (t : Bool) → t ≡ isBefore (gapOf w) j k e f
       → accepted (says t) ≡ beforeBy g j k e f
   before-told o t q =
       let z = ap isOut (there .gap) ∙ o in
@@ -57,14 +57,14 @@ module _ (X : Setup) (g : Option Gap) (j k : ℕ) (e f : Row) (w : Way) (there :
 
   -- and the way back
   module _ (h : Option Gap) (v : Way) (back : WayOf X h k f e v) where
-    reach : (isOut g || isOut h) ≡ (isOut (near X (gapOf w)) || isOut (near X (gapOf v)))
+    reach : (isOut g || isOut h) ≡ (isOut (near X (w .from) (gapOf w)) || isOut (near X (v .from) (gapOf v)))
     reach i = isOut (there .gap i) || isOut (back .gap i)
 
-    pub compare-out : (isOut (near X (gapOf w)) || isOut (near X (gapOf v))) ≡ true
+    pub compare-out : (isOut (near X (w .from) (gapOf w)) || isOut (near X (v .from) (gapOf v))) ≡ true
         → refusal (number OutOfReach) ≡ compareBy g h j k e f
     compare-out o = rw (reach ∙ o)
 
-    pub compare-told : (isOut (near X (gapOf w)) || isOut (near X (gapOf v))) ≡ false → (t : Relation)
+    pub compare-told : (isOut (near X (w .from) (gapOf w)) || isOut (near X (v .from) (gapOf v))) ≡ false → (t : Relation)
         → t ≡ relation (gapOf w) (gapOf v) j k e f → accepted (relates t) ≡ compareBy g h j k e f
     compare-told o t q =
         let z = reach ∙ o in

@@ -10,13 +10,14 @@ use Rattle.ring.specs.Phases.{Gap, laterBy}
 use Rattle.rules.specs.declared.Setup.{Setup}
 use Rattle.rules.specs.declared.Relation.{Relation}
 use Rattle.rules.specs.declared.Relation.the-variants.{Before, After, Same, Concurrent, Crossed}
-use Rattle.rules.specs.Model.{Row, near, isOut, gapIn, sameBy, isBefore, relation}
+use Rattle.rules.specs.Model.{Row, reachBack, near, isOut, gapIn, sameBy, isBefore, relation}
 use Rattle.comparing.specs.declared.Way.{Way}
 use Rattle.comparing.specs.Ways.{gapOf, Clocked, WayOf}
 
 -- out of reach, by the test of the reach
-pub out-by : (X : Setup) (d : Gap) → not (ltb (d .up) (d .down + X .ahead) && ltb (d .down) (d .up + X .back)) ≡ isOut (near X d)
-out-by X d = go (ltb (d .up) (d .down + X .ahead) && ltb (d .down) (d .up + X .back))
+pub out-by : (X : Setup) (c : ℕ) (d : Gap)
+    → not (ltb (d .up) (d .down + X .ahead) && ltb (d .down) (d .up + reachBack X (eqb c 0))) ≡ isOut (near X c d)
+out-by X c d = go (ltb (d .up) (d .down + X .ahead) && ltb (d .down) (d .up + reachBack X (eqb c 0)))
   where
     go : (t : Bool) → not t ≡ isOut (pick t (some d) none)
     go true = refl
@@ -44,8 +45,8 @@ module _ (w : Way) (j k : ℕ) (e f : Row) (p : Clocked w j e f) where
       λ i. related (q i) (t i) (b i)
 
 -- the difference that is asked for, where it is within reach
-pub gap-in : (X : Setup) (g : Option Gap) (d : Gap) → g ≡ near X d → isOut g ≡ false → gapIn g ≡ d
-gap-in X g d e o = go (ltb (d .up) (d .down + X .ahead) && ltb (d .down) (d .up + X .back)) e
+pub gap-in : (X : Setup) (g : Option Gap) (c : ℕ) (d : Gap) → g ≡ near X c d → isOut g ≡ false → gapIn g ≡ d
+gap-in X g c d e o = go (ltb (d .up) (d .down + X .ahead) && ltb (d .down) (d .up + reachBack X (eqb c 0))) e
   where
     go : (t : Bool) → g ≡ pick t (some d) none → gapIn g ≡ d
     go true q = ap gapIn q
@@ -54,9 +55,10 @@ gap-in X g d e o = go (ltb (d .up) (d .down + X .ahead) && ltb (d .down) (d .up 
 -- what is asked of rows, by the ways between them
 module _ (X : Setup) (g : Option Gap) (j k : ℕ) (e f : Row) (w : Way) (h : WayOf X g j e f w) (o : isOut g ≡ false) where
   pub before-is : (r : Bool) → r ≡ isBefore (gapOf w) j k e f → r ≡ isBefore (gapIn g) j k e f
-  before-is r q = q ∙ ap (λ (d : Gap). isBefore d j k e f) (sym (gap-in X g (gapOf w) (h .gap) o))
+  before-is r q = q ∙ ap (λ (d : Gap). isBefore d j k e f) (sym (gap-in X g (w .from) (gapOf w) (h .gap) o))
 
   pub relation-is : (g′ : Option Gap) (v : Way) → WayOf X g′ k f e v → isOut g′ ≡ false → (r : Relation)
       → r ≡ relation (gapOf w) (gapOf v) j k e f → r ≡ relation (gapIn g) (gapIn g′) j k e f
   relation-is g′ v h′ o′ r q =
-      q ∙ (λ i. relation (sym (gap-in X g (gapOf w) (h .gap) o) i) (sym (gap-in X g′ (gapOf v) (h′ .gap) o′) i) j k e f)
+      q
+      ∙ (λ i. relation (sym (gap-in X g (w .from) (gapOf w) (h .gap) o) i) (sym (gap-in X g′ (v .from) (gapOf v) (h′ .gap) o′) i) j k e f)

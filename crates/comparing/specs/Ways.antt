@@ -19,5 +19,5 @@ pub record Clocked (w : Way) (j : ℕ) (e f : Row) : Type 0 where
   pub to : w .to ≡ f j .clock
 
 pub record WayOf (X : Setup) (g : Option Gap) (j : ℕ) (e f : Row) (w : Way) : Type 0 where
-  pub gap : g ≡ near X (gapOf w)
+  pub gap : g ≡ near X (w .from) (gapOf w)
   pub clocks : Clocked w j e f

@@ -3,7 +3,7 @@ ghost use mathlib.Core.Path.{_≡_};
 ghost use mathlib.Core.Option.{Option};
 ghost use Prim.Native.Nat.{_≤_};
 ghost use Rattle.ring.specs.Phases.{Gap};
-ghost use Rattle.rules.specs.Model.{Row, near, isOut, sameBy, isBefore};
+ghost use Rattle.rules.specs.Model.{Row, reachBack, near, isOut, sameBy, isBefore};
 ghost use Rattle.rules.specs.Model;
 ghost use Rattle.rules.specs.Replies.{toldSays, comparedSays};
 ghost use Rattle.comparing.specs.Ways.{gapOf, Clocked, WayOf};
@@ -22,14 +22,26 @@ pub struct Way {
     pub to: u8,
 }
 
-// Whether a question is out of reach: d does not lie from -(m-1) to n-1.
+// A difference within reach is above minus this: m, and m+1 from a reset.
+fn reach_back(setup: Setup, reset: bool) -> usize
+    requires { ⌜ setup .back ≤ 255 ⌝ }
+    ensures { λ r. ⌜ r ≡ reachBack setup reset ⌝ }
+{
+    if reset {
+        return setup.back + 1;
+    }
+    setup.back
+}
+
+// Whether a question is out of reach: d does not lie from -(m-1) to n-1, or from -m where the owner's stamp is a reset's, whose clock is 0.
 fn out_of_reach(setup: Setup, way: Way) -> bool
     requires { ⌜ (setup .back ≤ 255) × (setup .ahead ≤ 255) ⌝ }
-    ensures { λ r. ⌜ r ≡ isOut (near setup (gapOf way)) ⌝ }
+    ensures { λ r. ⌜ r ≡ isOut (near setup (way .from) (gapOf way)) ⌝ }
 {
     let up = tools::wide(way.up);
     let down = tools::wide(way.down);
-    !((up < down + setup.ahead) & (down < up + setup.back))
+    let back = reach_back(setup, way.from == 0);
+    !((up < down + setup.ahead) & (down < up + back))
 }
 
 // Whether d is 0 and the clocks are equal.

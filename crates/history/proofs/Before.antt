@@ -2,7 +2,7 @@
 -- Assumes nothing.
 use mathlib.Core.Path.{_≡_, refl, ap, sym, _∙_, subst}
 use mathlib.Core.Bool.{Bool, true, false, not, _&&_, _||_}
-use mathlib.Core.Option.{Option, none, some}
+use mathlib.Core.Option.{Option, some}
 use mathlib.Core.Logic.{inl, inr, _↔_}
 use Prim.Native.Nat.{ℕ, _+_, _-_, _≤_, _<_}
 use native.Mathlib.Omega.{arith}
@@ -11,10 +11,11 @@ use lib.Dec.{ltb, eqb}
 use borrow.Author.Tests.{eqb-true, eq-eqb, ne-eqb, ltb-true, ltb-false, lt-ltb}
 use Rattle.ring.specs.Phases.{line, Gap}
 use Rattle.rules.proofs.Setups.{Permitted}
+use Rattle.rules.proofs.Reach.{near-in, in-near}
 use Rattle.rules.specs.declared.Setup.{Setup}
 use Rattle.tools.specs.Tests.{pick}
 use Rattle.rules.specs.declared.Relation.the-variants.{Before, After, Same, Concurrent, Crossed}
-use Rattle.rules.specs.Model.{Held, Tables, before, compare, says, relates, step, done, near, isOut, gapIn, gap, sameBy, isBefore}
+use Rattle.rules.specs.Model.{Held, Tables, before, compare, says, relates, step, done, reachBack, near, isOut, gapIn, gap, sameBy, isBefore}
 use Rattle.rules.specs.Model.{relation, settle, telling, askReasons, reasons, askTells}
 use Rattle.history.specs.History.{Log, History, Leads}
 use Rattle.history.specs.Demand.{InReach, BeforeIs, CompareIs, Stands}
@@ -139,21 +140,26 @@ module _ (X : Setup) (h : Log) (c : Causal X h) (x y : ℕ) (lx : x < h .count) 
           (F-of eq (tells X h c x y lx ly d t), F-of er (tells X h c y x ly lx d′ t′), F-of ep (same-is X h c x y lx ly d t))
 
 -- On the book: the gap of the lags is the true one, and is out of reach exactly when that is.
-module _ (X : Setup) (d : Gap) (v v′ : ℕ) (t : Differ d v v′) where
-  near-open : (v′ < v + X .ahead) × (v < v′ + X .back) → near X d ≡ some d
-  near-open r = rw (lt-ltb (d .up) (d .down + X .ahead) (omega arith), lt-ltb (d .down) (d .up + X .back) (omega arith))
+module _ (X : Setup) (k : ℕ) (d : Gap) (v v′ : ℕ) (t : Differ d v v′) where
+  near-open : (v′ < v + X .ahead) × (v < v′ + reachBack X (eqb k 0)) → near X k d ≡ some d
+  near-open r = near-in X k d (omega arith) (omega arith)
 
-  near-shut : isOut (near X d) ≡ false → (v′ < v + X .ahead) × (v < v′ + X .back)
-  near-shut e = go (ltb (d .up) (d .down + X .ahead)) (ltb (d .down) (d .up + X .back)) refl refl e
-    where
-      go : (p q : Bool) → ltb (d .up) (d .down + X .ahead) ≡ p → ltb (d .down) (d .up + X .back) ≡ q
-          → isOut (pick (p && q) (some d) none) ≡ false → (v′ < v + X .ahead) × (v < v′ + X .back)
-      go true true p q e =
-          let a : d .up < d .down + X .ahead = ltb-true _ _ p in
-          let c : d .down < d .up + X .back = ltb-true _ _ q in
-          (omega arith, omega arith)
-      go true false p q e = absurd (mathlib.Core.Bool.true≢false e)
-      go false q p q′ e = absurd (mathlib.Core.Bool.true≢false e)
+  near-shut : isOut (near X k d) ≡ false → (v′ < v + X .ahead) × (v < v′ + reachBack X (eqb k 0))
+  near-shut e = let i = in-near X k d e in (omega arith, omega arith)
+
+-- the reach by the kind of the event x, and by its own clock
+abbrev pub ByClock : Setup → Log → ℕ → ℕ → Type 0
+ByClock X h x y =
+    let j = h .desk x in
+    (h .row y j .phase < h .row x j .phase + X .ahead)
+    × (h .row x j .phase < h .row y j .phase + reachBack X (eqb (h .row x j .clock) 0))
+
+module _ (X : Setup) (h : Log) (c : Causal X h) (x y : ℕ) (lx : x < h .count) where
+  pub by-clock : InReach X h x y → ByClock X h x y
+  by-clock r = rw (c .kinds x lx) r
+
+  by-kind : ByClock X h x y → InReach X h x y
+  by-kind r = rw (c .kinds x lx) at r
 
 apart : (_≡_ {A = ℕ} 0 16) → ⊥
 apart e = omega arith
@@ -172,10 +178,14 @@ module _ (X : Setup) (h : Log) (c : Causal X h) (b : Tables) (x y : ℕ) (lx : x
   lag-true = let p = nx (h .desk x) in let q = ny (h .desk x) in omega arith
 
   lag-open : InReach X h x y → gap line X b (h .desk x) (h .row x) (h .row y) ≡ some lag-gap
-  lag-open r = near-open X lag-gap (h .row x (h .desk x) .phase) (h .row y (h .desk x) .phase) lag-true r
+  lag-open r =
+      near-open X (h .row x (h .desk x) .clock) lag-gap (h .row x (h .desk x) .phase) (h .row y (h .desk x) .phase) lag-true
+      (by-clock X h c x y lx r)
 
   lag-shut : isOut (gap line X b (h .desk x) (h .row x) (h .row y)) ≡ false → InReach X h x y
-  lag-shut e = near-shut X lag-gap (h .row x (h .desk x) .phase) (h .row y (h .desk x) .phase) lag-true e
+  lag-shut e =
+      by-kind X h c x y lx
+      (near-shut X (h .row x (h .desk x) .clock) lag-gap (h .row x (h .desk x) .phase) (h .row y (h .desk x) .phase) lag-true e)
 
   gap-true : InReach X h x y → True h (gapIn (gap line X b (h .desk x) (h .row x) (h .row y))) x y
   gap-true r = subst (λ d. True h d x y) (sym (ap gapIn (lag-open r))) lag-true

@@ -6,10 +6,11 @@ use mathlib.Core.Logic.{_⊎_, inl, inr}
 use Prim.Native.Nat.{ℕ, suc, _≤_, _<_}
 use native.Mathlib.Omega.{arith}
 use native.Mathlib.Decide.{ℕ-discrete}
+use lib.Dec.{eqb}
 use Rattle.ring.specs.Phases.{Pair}
 use Rattle.rules.specs.declared.Setup.{Setup}
 use Rattle.rules.specs.Model.{Row, zeros}
-use Rattle.history.specs.History.{Kind, cause, Log, Link, desk-link, mail-link, Leads, one, more, logged}
+use Rattle.history.specs.History.{Kind, cause, isReset, Log, Link, desk-link, mail-link, Leads, one, more, logged}
 use Rattle.history.specs.Vector.{Upto, Earlier, Last, Never}
 use Rattle.tools.specs.Tables.{Each}
 use Rattle.tools.proofs.Tables.{put-all, put-same, put-other}
@@ -30,6 +31,8 @@ Origin h k q = (q ≡ zeros k) ⊎ ((e : ℕ) × (e < h .count) × (h .desk e �
 pub record Causal (X : Setup) (h : Log) : Type 0 where
   pub clocks : (e : ℕ) → e < h .count → (k : ℕ) → h .row e k .clock < X .clocks
   pub caused : Caused h
+  -- an event's own clock is 0 exactly where it is a reset
+  pub kinds : (e : ℕ) → e < h .count → eqb (h .row e (h .desk e) .clock) 0 ≡ isReset (h .kind e)
   pub positive : (e : ℕ) → e < h .count → 0 < seen X h e e
   pub sound : (e f : ℕ) → e < h .count → f < h .count → Upto h e f → seen X h e e ≤ seen X h e f
   pub complete : (e f : ℕ) → e < h .count → f < h .count → seen X h e e ≤ seen X h e f → Upto h e f
@@ -78,6 +81,7 @@ below Q n e h f q = go (ℕ-discrete e n)
 -- what an event at j, its row r, must meet
 pub record Fits (X : Setup) (h : Log) (j : ℕ) (w : Kind) (r : Row) : Type 0 where
   pub small : (k : ℕ) → r k .clock < X .clocks
+  pub kind : eqb (r j .clock) 0 ≡ isReset w
   pub sent : Each (λ e. e < h .count) (cause w)
   pub ahead : (f : ℕ) → f < h .count → key X (h .row f j) < key X (r j)
   pub first : 0 < key X (r j)
@@ -198,6 +202,11 @@ module _ (X : Setup) (h : Log) (c : Causal X h) (j : ℕ) (w : Kind) (r : Row) (
         clocks = put-all (λ e (ρ : Row). e < suc (h .count) → (k : ℕ) → ρ k .clock < X .clocks) (h .row) (h .count) r (λ l. fit .small)
             (λ e ne l. c .clocks e (omega arith));
         caused = caused;
+        kinds = λ e a. below (λ e. eqb ((logged h j w r) .row e ((logged h j w r) .desk e) .clock) 0 ≡ isReset ((logged h j w r) .kind e))
+            (h .count) e a
+            (λ a. (λ i. eqb (old-row e a i (old-desk e a i) .clock) 0) ∙ c .kinds e a ∙ ap isReset (sym (old-kind e a)))
+            ((λ i. eqb (put-same (h .row) (h .count) r i (put-same (h .desk) (h .count) j i) .clock) 0) ∙ fit .kind
+            ∙ ap isReset (sym (put-same (h .kind) (h .count) w)));
         positive = λ e a. below (λ e. 0 < seen X (logged h j w r) e e) (h .count) e a (λ a. rw (seen-old e e a a) (c .positive e a))
             (rw seen-new (fit .first));
         sound = λ e f a b. below (λ e. Upto (logged h j w r) e f → seen X (logged h j w r) e e ≤ seen X (logged h j w r) e f) (h .count) e a

@@ -7,8 +7,8 @@ use mathlib.Core.Logic.{_⊎_, inl, inr}
 use Prim.Native.Nat.{ℕ, zero, suc, _+_, _≤_, _<_}
 use native.Mathlib.Omega.{arith}
 use native.Mathlib.Decide.{ℕ-discrete}
-use lib.Dec.{ltb}
-use borrow.Author.Tests.{ltb-true, ltb-false}
+use lib.Dec.{ltb, eqb}
+use borrow.Author.Tests.{eq-eqb, ne-eqb, ltb-true, ltb-false}
 use Rattle.ring.specs.Phases.{line, Pair, isLater, later}
 use Rattle.rules.proofs.Setups.{Permitted}
 use Rattle.rules.specs.declared.Setup.{Setup}
@@ -18,7 +18,7 @@ use Rattle.tools.specs.Tables.{put, Each}
 use Rattle.rules.specs.Model.{Row, Seat, Held, Tables, Act, local, reset, keep, drop, discard, send, receive, ask}
 use Rattle.rules.specs.Model.{step, done, why, fresh, zeros, grown, merged, turned, seated, freeMail, freeSlot, rowIn, used}
 use Rattle.rules.specs.Model.{own, tick, turn, settle}
-use Rattle.history.specs.History.{Kind, cause, Local, Send, Reset, Receive, Log, History, desk-link, one, more, logged, noted, none-yet}
+use Rattle.history.specs.History.{Kind, cause, isReset, Local, Send, Reset, Receive, Log, History, desk-link, one, more, logged, noted, none-yet}
 use Rattle.history.specs.History.{adds}
 use Rattle.tools.proofs.Tables.{put-all, put-both, put-same, put-other, Each-map, none-some}
 use Rattle.history.proofs.Keys.{key, later-key, tick-key, turn-key}
@@ -47,12 +47,16 @@ pub record Good (X : Setup) (b : Tables) (h : History) : Type 0 where
   pub shelf : (s : ℕ) → Each (Behind (h .log) (h .kept s)) (b .shelf s)
 
 module _ (X : Setup) (ok : Permitted X) (b : Tables) (h : History) (g : Good X b h) where
-  seat-clock : (j k : ℕ) → b .seat j .row k .clock < X .clocks
+  pub seat-clock : (j k : ℕ) → b .seat j .row k .clock < X .clocks
   seat-clock j k = go (b .seat j .started) (g .seats j)
     where
       go : (t : Bool) → SeatOf (h .log) j (h .last j) t (b .seat j .row) → b .seat j .row k .clock < X .clocks
       go true s = rw (s .2) at (g .causal .clocks (h .last j) (s .0) k)
       go false s = rw (s .0) (let z = ok .clocks in omega arith)
+
+  -- what ticks is no reset
+  ticks : (j : ℕ) → eqb (tick (own b j) .clock) 0 ≡ false
+  ticks j = ne-eqb (own b j .clock + 1) 0 (omega arith)
 
   seat-known : (j k : ℕ) → key X (b .seat j .row k) ≤ key X (own b k)
   seat-known j k = go (b .seat j .started) (g .seats j)
@@ -105,11 +109,13 @@ module _ (X : Setup) (ok : Permitted X) (b : Tables) (h : History) (g : Good X b
       go false s = inl (ap (λ (ρ : Row). ρ k) (s .0))
 
   -- an event that hears of nothing: r is j's row with another own pair
-  plain : (w : Kind) → cause w ≡ none → (j : ℕ) (q : Pair) → key X (own b j) < key X q → q .clock < X .clocks
+  plain : (w : Kind) → cause w ≡ none → (j : ℕ) (q : Pair) → eqb (q .clock) 0 ≡ isReset w → key X (own b j) < key X q
+      → q .clock < X .clocks
       → Fits X (h .log) j w (put (b .seat j .row) j q)
-  plain w no-cause j q l m =
+  plain w no-cause j q kind l m =
       record {
         small = put-all (λ k (p : Pair). p .clock < X .clocks) (b .seat j .row) j q m (λ k ne. seat-clock j k);
+        kind = ap (λ (p : Pair). eqb (p .clock) 0) (put-same (b .seat j .row) j q) ∙ kind;
         sent = rw no-cause tt;
         ahead = λ f a. rw (put-same (b .seat j .row) j q) (let z = g .known f a j in omega arith);
         first = rw (put-same (b .seat j .row) j q) (omega arith);
@@ -173,6 +179,7 @@ module _ (X : Setup) (ok : Permitted X) (b : Tables) (h : History) (g : Good X b
         record {
           small = put-all (λ k (p : Pair). p .clock < X .clocks) (λ k. later line (phases b k) (b .seat j .row k) (m k)) j (tick (own b j))
               (omega arith) (λ k ne. small k (at-k k .2));
+          kind = ap (λ (p : Pair). eqb (p .clock) 0) r-own ∙ ticks j;
           sent = lx;
           ahead = λ f a. rw r-own (let z = g .known f a j in omega arith);
           first = rw r-own (omega arith);
@@ -286,12 +293,12 @@ module _ (X : Setup) (ok : Permitted X) (b : Tables) (h : History) (g : Good X b
   unfolding done adds
   good-done (local j) e bd =
       let n = no-local line X b j e in
-      let fit = plain Local refl j (tick (own b j)) (tick-key X (own b j)) (n .1) in
+      let fit = plain Local refl j (tick (own b j)) (ticks j) (tick-key X (own b j)) (n .1) in
       good-event j Local (grown b j) fit (plain-known j (tick (own b j))) (b .mail) (h .mailed) bd
       (λ p. behind-up j Local (grown b j) fit (plain-known j (tick (own b j))) (h .mailed p) (b .mail p) (g .mail p))
   good-done (send j k) e bd =
       let n = no-send line X b j k e in
-      let fit = plain Send refl j (tick (own b j)) (tick-key X (own b j)) (n .1) in
+      let fit = plain Send refl j (tick (own b j)) (ticks j) (tick-key X (own b j)) (n .1) in
       good-event j Send (grown b j) fit (plain-known j (tick (own b j))) _ _ bd
       (put-both (λ p (o : Option Held) x. Each (Behind (logged (h .log) j Send (grown b j)) x) o) (b .mail) (h .mailed) (freeMail b)
       (some record { by = j; to = k; row = grown b j }) (h .log .count)
@@ -309,7 +316,7 @@ module _ (X : Setup) (ok : Permitted X) (b : Tables) (h : History) (g : Good X b
       (λ q ne. behind-up j (Receive (h .mailed p)) (merged line b j (rowIn (b .mail p))) fit less (h .mailed q) (b .mail q) (g .mail q)))
   good-done (reset j) e bd =
       let l = ok .clocks in
-      let fit = plain Reset refl j (turn line (own b j)) (turn-key X (own b j) (seat-clock j j)) (omega arith) in
+      let fit = plain Reset refl j (turn line (own b j)) (eq-eqb 0 0 refl) (turn-key X (own b j) (seat-clock j j)) (omega arith) in
       good-event j Reset (turned line b j) fit (plain-known j (turn line (own b j))) (b .mail) (h .mailed) bd
       (λ p. behind-up j Reset (turned line b j) fit (plain-known j (turn line (own b j))) (h .mailed p) (b .mail p) (g .mail p))
   good-done (keep j) e bd =
@@ -359,6 +366,7 @@ good-begin X =
       causal = record {
         clocks = λ e l. absurd (omega arith);
         caused = λ e l. absurd (omega arith);
+        kinds = λ e l. absurd (omega arith);
         positive = λ e l. absurd (omega arith);
         sound = λ e f l. absurd (omega arith);
         complete = λ e f l. absurd (omega arith);

@@ -1,7 +1,7 @@
 -- DEMAND 3, stamps off the book: any two stamps that a run has answered since its last accepted start, kept or not, are answered
 -- as the history has it by before, compare and newest, provided each true difference asked about is within the permission.
 -- Assumes nothing.
-use mathlib.Core.Path.{_≡_, ap, sym, subst}
+use mathlib.Core.Path.{_≡_, ap, sym, _∙_, subst}
 use mathlib.Core.Bool.{true}
 use mathlib.Core.Option.{some}
 use mathlib.Core.List.{List}
@@ -9,16 +9,14 @@ use mathlib.Core.Logic.{inl, inr}
 use Prim.Native.Nat.{ℕ, _+_, _-_, _≤_, _<_}
 use native.Mathlib.Omega.{arith}
 use native.Mathlib.Decide.{decLt}
-use lib.Dec.{ltb}
-use borrow.Author.Tests.{lt-ltb, le-ltb}
-use Rattle.tools.proofs.Tests.{pick-true}
+use lib.Dec.{eqb}
 use Rattle.ring.specs.Phases.{Gap}
 use Rattle.ring.proofs.Ring.{ring-lag, ring-back}
 use Rattle.rules.specs.declared.Setup.{Setup}
 use Rattle.rules.specs.declared.Relation.{Relation}
 use Rattle.rules.specs.declared.Relation.the-variants.{Before, After, Same, Concurrent, Crossed}
 use Rattle.rules.specs.Setups.{permits}
-use Rattle.rules.specs.Model.{Row, Answer, accepted, says, relates, relation}
+use Rattle.rules.specs.Model.{Row, Answer, accepted, says, relates, reachBack, near, relation}
 use Rattle.rules.specs.Calls.{Call}
 use Rattle.rules.specs.Model.{Label}
 use Rattle.rules.specs.Labels.{First, gapOff, beforeOff, compareOff, newer, newestBy, newestOff}
@@ -27,41 +25,51 @@ use Rattle.history.specs.History.{Log, Leads, State, logAfter, setupAfte
 use Rattle.history.specs.Stamps.{StampOf, Answered}
 use Rattle.history.specs.Demand.{InReach, Stands, BeforeSaid, CompareSaid, Newer}
 use Rattle.rules.proofs.Setups.{Permitted, permitted}
+use Rattle.rules.proofs.Reach.{reach-own, reach-round, near-in}
+use Rattle.rules.proofs.Off.{shown-ahead, shown-back}
 use Rattle.history.proofs.Keys.{Differ}
 use Rattle.history.proofs.Causal.{Causal}
-use Rattle.history.proofs.Before.{asked, tells, stands}
+use Rattle.history.proofs.Before.{asked, tells, stands, by-clock}
 use Rattle.history.proofs.Runs.{Faithful, faithful-run}
 use Rattle.history.proofs.Stamps.{StampIn, answered-stamp}
 
 -- within reach the ring shows the true difference
 module _ (X : Setup) (ok : Permitted X) (j : ℕ) (e f : Row) where
-  off-open : (f j .phase < e j .phase + X .ahead) × (e j .phase < f j .phase + X .back)
+  abbrev c : ℕ
+  c = e j .clock
+
+  off-open : (f j .phase < e j .phase + X .ahead) × (e j .phase < f j .phase + reachBack X (eqb c 0))
       → (d : Gap) × (gapOff X j (roundRow (X .phases) e) (roundRow (X .phases) f) ≡ some d) × Differ d (e j .phase) (f j .phase)
   off-open r = go (decLt (f j .phase) (e j .phase))
     where
-      back : 1 ≤ X .back
-      back = ok .back
+      back : 1 ≤ reachBack X (eqb c 0)
+      back = reach-own X ok (eqb c 0)
 
       forth : 1 ≤ X .ahead
       forth = ok .forth
 
-      reach : X .back + X .ahead ≤ X .phases + 1
-      reach = ok .reach
+      reach : reachBack X (eqb c 0) + X .ahead ≤ X .phases + 1
+      reach = reach-round X ok (eqb c 0)
 
       go : Dec (f j .phase < e j .phase)
           → (d : Gap) × (gapOff X j (roundRow (X .phases) e) (roundRow (X .phases) f) ≡ some d) × Differ d (e j .phase) (f j .phase)
       go (no l) =
+          let up = f j .phase - e j .phase in
           let q = ring-lag (X .phases) (f j .phase) (e j .phase) (omega (arith, r, l)) (omega (arith, r, back, reach)) in (
-            record { up = f j .phase - e j .phase; down = 0 },
-            rw (q, lt-ltb (f j .phase - e j .phase) (X .ahead) (omega (arith, r, forth))),
+            record { up = up; down = 0 },
+            shown-ahead X ok j (roundRow (X .phases) e) (roundRow (X .phases) f) (omega (arith, q, r, forth))
+                ∙ ap (λ n. near X c (record { up = n; down = 0 })) q
+                ∙ near-in X c (record { up = up; down = 0 }) (omega (arith, r, forth)) (omega (arith, back)),
             omega (arith, l),
           )
       go (yes l) =
-          let q = ring-back (X .phases) (e j .phase) (f j .phase) l (omega (arith, r, forth, reach)) in
-          let down = X .phases - (X .phases - (e j .phase - f j .phase)) in (
+          let round = X .phases - (e j .phase - f j .phase) in
+          let down = X .phases - round in
+          let q = ring-back (X .phases) (e j .phase) (f j .phase) l (omega (arith, r, forth, reach)) in (
             record { up = 0; down = down },
-            rw (q, le-ltb (X .phases - (e j .phase - f j .phase)) (X .ahead) (omega (arith, r, reach, l)))
-                (pick-true (ltb down (X .back)) _ _ (lt-ltb down (X .back) (omega (arith, r, reach, back)))),
+            shown-back X ok j (roundRow (X .phases) e) (roundRow (X .phases) f) (omega (arith, q, r, reach, l))
+                ∙ ap (λ n. near X c (record { up = 0; down = X .phases - n })) q
+                ∙ near-in X c (record { up = 0; down = down }) (omega (arith, forth)) (omega (arith, r, reach, back)),
             omega (arith, r, reach, forth, l),
           )
 
@@ -76,7 +84,7 @@ module _ (X : Setup) (fair : permits X ≡ true) (h : Log) (c : Causal X h) (x y
   before-at : InReach X h x y → BeforeSaid h x y (beforeOff X (some (stampAt X h x)) (some (stampAt X h y)))
   unfolding beforeOff
   before-at r =
-      let o = off-open X (permitted X fair) (h .desk x) (h .row x) (h .row y) r in
+      let o = off-open X (permitted X fair) (h .desk x) (h .row x) (h .row y) (by-clock X h c x y lx r) in
       let q : beforeOff X (some (stampAt X h x)) (some (stampAt X h y)) ≡ accepted (says (asked h (o .0) x y)) = rw (fair, o .1) in (
         asked h (o .0) x y,
         ap (λ (a : Answer). a .number) q,
@@ -87,8 +95,8 @@ module _ (X : Setup) (fair : permits X ≡ true) (h : Log) (c : Causal X h) (x y
   compare-at : InReach X h x y → InReach X h y x → CompareSaid h x y (compareOff X (some (stampAt X h x)) (some (stampAt X h y)))
   unfolding compareOff
   compare-at r r′ =
-      let o = off-open X (permitted X fair) (h .desk x) (h .row x) (h .row y) r in
-      let p = off-open X (permitted X fair) (h .desk y) (h .row y) (h .row x) r′ in
+      let o = off-open X (permitted X fair) (h .desk x) (h .row x) (h .row y) (by-clock X h c x y lx r) in
+      let p = off-open X (permitted X fair) (h .desk y) (h .row y) (h .row x) (by-clock X h c y x ly r′) in
       let v = relation (o .0) (p .0) (h .desk x) (h .desk y) (h .row x) (h .row y) in
       let q : compareOff X (some (stampAt X h x)) (some (stampAt X h y)) ≡ accepted (relates v) = rw (fair, o .1, p .1) in (
         v,

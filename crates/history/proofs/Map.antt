@@ -69,7 +69,7 @@ module _ (Z Y : Phases) (φ : ℕ → ℕ → ℕ) (X : Setup) (b : Tables) (w :
           → gapHeld Z X (mapTables φ b) (mapHeld φ e) (mapHeld φ f) ≡ gapHeld Y X b e f
       go none f p q = refl
       go (some e) none p q = refl
-      go (some e) (some f) p q = ap (near X) (λ i. record { up = p (e .by) i; down = q (e .by) i })
+      go (some e) (some f) p q = ap (near X (e .row (e .by) .clock)) (λ i. record { up = p (e .by) i; down = q (e .by) i })
 
   ask-why : (q : Question) → why Z X (mapTables φ b) (ask q) ≡ why Y X b (ask q)
   unfolding reasons askReasons

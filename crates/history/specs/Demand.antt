@@ -1,6 +1,7 @@
 -- What demand 3 says of before and compare, over the history of the line.
 -- Assumes nothing. In words: docs/RULES.md, "As if phases never came round".
---   InReach X h x y      the true phases of x's desk at x and at y differ by no more than the setup permits
+--   InReach X h x y      the true phases of x's desk at x and at y differ by no more than the setup permits: from x on y is at most
+--                        n-1 ahead, and at most m-1 back, m where x is a reset
 --   BeforeSaid h x y a   a says yes, of the events x and y, exactly when a chain leads from x to y
 --   BeforeIs X h x y a   a is the answer to before, of the stamps of the events x and y
 --   Stands h x y r       the event x stands to the event y as r says
@@ -14,14 +15,14 @@ use Prim.Native.Nat.{ℕ, _+_, _<_}
 use Rattle.rules.specs.declared.Setup.{Setup}
 use Rattle.rules.specs.declared.Relation.{Relation}
 use Rattle.rules.specs.declared.Relation.the-variants.{Before, After, Same, Concurrent, Crossed}
-use Rattle.rules.specs.Model.{says, relates, Answer}
+use Rattle.rules.specs.Model.{says, relates, Answer, reachBack}
 use Rattle.rules.specs.Labels.{Which, First, Second, Neither}
-use Rattle.history.specs.History.{Log, Leads}
+use Rattle.history.specs.History.{isReset, Log, Leads}
 
 abbrev pub InReach : Setup → Log → ℕ → ℕ → Type 0
 InReach X h x y =
     (h .row y (h .desk x) .phase < h .row x (h .desk x) .phase + X .ahead)
-    × (h .row x (h .desk x) .phase < h .row y (h .desk x) .phase + X .back)
+    × (h .row x (h .desk x) .phase < h .row y (h .desk x) .phase + reachBack X (isReset (h .kind x)))
 
 abbrev pub BeforeSaid : Log → ℕ → ℕ → Answer → Type 0
 BeforeSaid h x y a = (t : Bool) × (a .number ≡ 0) × (a .value ≡ says t) × ((t ≡ true) ↔ Leads h x y)

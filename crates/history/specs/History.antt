@@ -2,6 +2,7 @@
 -- Assumes nothing. In words: docs/RULES.md, "As if phases never came round".
 --   Kind           which of the four events; a receive with the number of its send
 --   cause w        the send that a receive takes in
+--   isReset w      the event is a reset
 --   Log            the accepted events since the last accepted start, numbered from 0
 --   History        a log, and the event behind each mail place, each slot and each started seat
 --   none-yet       the history after a start
@@ -15,6 +16,7 @@
 --   next s c       the state after a call, its history as it was where the call is refused; after s cs, after a list of calls
 --   logAfter X cs  the log of the calls cs, from a fresh book of X on; setupAfter X cs, the setup then
 use mathlib.Core.Path.{_≡_}
+use mathlib.Core.Bool.{Bool, true, false}
 use mathlib.Core.Option.{Option, none, some}
 use mathlib.Core.List.{List, [], _∷_}
 use Prim.Native.Nat.{ℕ, suc, _<_}
@@ -54,6 +56,12 @@ cause Local = none
 cause Send = none
 cause Reset = none
 cause (Receive e) = some e
+
+abbrev pub isReset : Kind → Bool
+isReset Local = false
+isReset Send = false
+isReset Reset = true
+isReset (Receive e) = false
 
 pub record Log : Type 0 where
   pub count : ℕ

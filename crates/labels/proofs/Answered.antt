@@ -6,8 +6,6 @@ use mathlib.Core.Bool.{Bool, true, false, not, _||_, false≢true}
 use mathlib.Core.Option.{Option, none, some}
 use mathlib.Core.List.{List}
 use native.Mathlib.Omega.{arith}
-use native.Mathlib.Nat.{zero-add}
-use borrow.Author.Tests.{lt-ltb, le-ltb}
 use lib.ListN.{length, replicate}
 use Rattle.tools.specs.Tests.{pick}
 use Rattle.tools.specs.Lists.{byte, tab}
@@ -18,11 +16,12 @@ use Rattle.rules.specs.declared.Compared.{Compared}
 use Rattle.rules.specs.declared.Compared.the-variants as Compares
 use Rattle.rules.specs.Setups.{permits}
 use Rattle.rules.specs.Numbers.{BadStamp, number}
-use Rattle.rules.specs.Model.{Row, stamp, relates, Answer, refusal, accepted, near, isOut}
+use Rattle.rules.specs.Model.{stamp, relates, Answer, refusal, accepted, near, isOut}
 use Rattle.rules.specs.Model.{Label}
 use Rattle.rules.specs.Labels.{reads, ownerIn, rowRead, gapOff, gapRead, whyOff, beforeOff, compareOff, newer, newestBy, newestOff, Neither}
 use Rattle.rules.specs.Replies.{rowOf, comparedSays}
 use Rattle.rules.proofs.Setups.{Permitted, permitted}
+use Rattle.rules.proofs.Off.{shown-ahead, shown-back}
 use Rattle.book.specs.Layout.{rowSpot, phaseSpot, clockSpot}
 use Rattle.book.specs.Stamps.{labelOf, readOk, readStamp}
 use Rattle.comparing.specs.Answers.{beforeBy, compareBy}
@@ -79,19 +78,6 @@ pub unread : (X : Setup) (a b : List ℕ) (n : ℕ) → permits X ≡ true
     → ((out : Bool) → whyOff X (readStamp X a) (readStamp X b) out ≡ n) × (n ≡ 0 → ⊥)
 unread X a b n p u q = (λ out. rw (p, u) (sym q), λ z. omega (arith, q, z))
 
--- the difference off the book, as a way has it: ahead, and back
-module _ (X : Setup) (j : ℕ) (e f : Row) where
-  abbrev ahead : ℕ
-  ahead = lagOf (X .phases) (f j .phase) (e j .phase)
-
-  gap-ahead : 1 ≤ X .back → ahead < X .ahead → gapOff X j e f ≡ near X (record { up = ahead; down = 0 })
-  gap-ahead b l =
-      rw (lt-ltb ahead (X .ahead) l, lt-ltb ahead (0 + X .ahead) (omega arith), lt-ltb 0 (ahead + X .back) (omega arith))
-
-  gap-back : 1 ≤ X .ahead → X .ahead ≤ ahead → gapOff X j e f ≡ near X (record { up = 0; down = X .phases - ahead })
-  gap-back b l =
-      rw (le-ltb ahead (X .ahead) l, lt-ltb 0 (X .phases - ahead + X .ahead) (omega arith), zero-add (X .back))
-
 -- what the way from the record a of desk j to the record b asks
 pub record Ready (X : Setup) (a b : List ℕ) (j : ℕ) : Type 0 where
   pub fair : Permitted X
@@ -145,11 +131,13 @@ module _ (X : Setup) (a b : List ℕ) (j : ℕ) (h : Both X a b) (own : ownerIn 
     clock-at r = ap (byte r) ec ∙ sym (ap (λ (q : Pair). q .clock) (label-pair r j eight))
 
     -- the way, by the difference that the bytes show
-    between : (up down : ℕ) → gapOff X j (labelOf a .row) (labelOf b .row) ≡ near X (record { up = up; down = down })
+    between : (up down : ℕ)
+        → gapOff X j (labelOf a .row) (labelOf b .row) ≡ near X (labelOf a .row j .clock) (record { up = up; down = down })
         → WayRead X a b j (record { up = up; down = down; from = byte a c; to = byte b c })
     between up down g =
         record {
-          gap = (λ i. gapRead X (one i) (two i)) ∙ ap (λ o. gapOff X o (labelOf a .row) (labelOf b .row)) owner ∙ g;
+          gap = (λ i. gapRead X (one i) (two i)) ∙ ap (λ o. gapOff X o (labelOf a .row) (labelOf b .row)) owner ∙ g
+              ∙ ap (λ t. near X t (record { up = up; down = down })) (sym (clock-at a));
           clocks =
               record {
                 from = clock-at a ∙ sym (ap (λ (o : Option Label). rowRead o j .clock) one);
@@ -165,15 +153,15 @@ module _ (X : Setup) (a b : List ℕ) (j : ℕ) (h : Both X a b) (own : ownerIn 
           → WayRead X a b j (record { up = r; down = 0; from = byte a c; to = byte b c })
       way-ahead l =
           between r 0
-          (gap-ahead X j (labelOf a .row) (labelOf b .row) (fair .back) (omega (arith, l, lag-is))
-          ∙ ap (λ u. near X (record { up = u; down = 0 })) lag-is)
+          (shown-ahead X fair j (labelOf a .row) (labelOf b .row) (omega (arith, l, lag-is))
+          ∙ ap (λ u. near X (labelOf a .row j .clock) (record { up = u; down = 0 })) lag-is)
 
       pub way-back : X .ahead ≤ r
           → WayRead X a b j (record { up = 0; down = X .phases - r; from = byte a c; to = byte b c })
       way-back l =
           between 0 (X .phases - r)
-          (gap-back X j (labelOf a .row) (labelOf b .row) (fair .forth) (omega (arith, l, lag-is))
-          ∙ ap (λ u. near X (record { up = 0; down = X .phases - u })) lag-is)
+          (shown-back X fair j (labelOf a .row) (labelOf b .row) (omega (arith, l, lag-is))
+          ∙ ap (λ u. near X (labelOf a .row j .clock) (record { up = 0; down = X .phases - u })) lag-is)
 
 -- two records as they read, and what is asked of them
 module _ (X : Setup) (e f : Option Label) where

@@ -4,10 +4,11 @@
 --   ends, held       not permitted below a range, permitted at both its ends, not permitted above; not permitted, then permitted
 --   Edges            each setup number below, at and above its range; each inequality just failed and just held
 --   pair v t         the pair v.t; row p q r, the row of three desks with these pairs; seat p q r, the seat of such a row
+--   kept p r         a kept stamp of desk 0, with p for desk 0 and r for desk 2
 --   X                the setup of the books; empty, a fresh book
 --   crowded          a book with no free place and no free slot, where at each desk some row lags as far as it may
 --   Numbers b ts     on the book b each call is answered by the number beside it
---   stampAt v        a stamp of desk 0 with the phase v
+--   stampAt v t      a stamp of desk 0 with the pair v.t
 --   edges            the setup numbers
 --   empty-numbers, crowded-numbers, off-numbers   the answer numbers, on books and off
 --   other-numbers    the number for bytes that are no book, and the number for lines of the program
@@ -22,8 +23,8 @@ use Rattle.ring.specs.Phases.{Pair}
 use Rattle.rules.specs.declared.Setup.{Setup}
 use Rattle.rules.specs.Setups.{permits, inRange, related}
 use Rattle.rules.specs.Numbers.{BadBook, BadLine, number}
-use Rattle.rules.specs.Model.{Row, Seat, Label, local, reset, keep, drop, discard, send, receive, before, write}
-use Rattle.rules.specs.Model.{zeros, idle, askReasons, reasons, done, step}
+use Rattle.rules.specs.Model.{Row, Seat, Held, Label, local, reset, keep, drop, discard, send, receive, before, compare, write}
+use Rattle.rules.specs.Model.{zeros, idle, reachBack, askReasons, reasons, done, step}
 use Rattle.rules.specs.Calls.{Book, Call, start, on, freshBook, ringOf, call}
 use Rattle.rules.specs.Labels.{beforeOff, compareOff}
 
@@ -45,11 +46,14 @@ pub record Edges : Type 0 where
   pub A : map (λ A. permits (setup 3 255 10 1 A 5 5)) (0 ∷ 1 ∷ 254 ∷ 255 ∷ []) ≡ ends
   pub m : map (λ m. permits (setup 3 255 10 4 8 m 5)) (0 ∷ 1 ∷ 127 ∷ 128 ∷ []) ≡ ends
   pub n : map (λ n. permits (setup 3 255 10 4 8 5 n)) (0 ∷ 1 ∷ 127 ∷ 128 ∷ []) ≡ ends
-  -- A >= M, P >= 2M+1, P >= A+1, P >= m+n-1
+  -- A >= M, P >= 2M+1, P >= A+1, P >= m+n
   pub A-M : map (λ A. permits (setup 3 255 10 50 A 5 5)) (49 ∷ 50 ∷ []) ≡ held
   pub P-M : map (λ P. permits (setup 3 P 10 50 60 5 5)) (100 ∷ 101 ∷ []) ≡ held
   pub P-A : map (λ P. permits (setup 3 P 10 4 70 5 5)) (70 ∷ 71 ∷ []) ≡ held
-  pub P-mn : map (λ P. permits (setup 3 P 10 4 8 30 50)) (78 ∷ 79 ∷ []) ≡ held
+  pub P-mn : map (λ P. permits (setup 3 P 10 4 8 30 50)) (79 ∷ 80 ∷ []) ≡ held
+  -- and that on the smallest ring, and with the longest reach
+  pub least : map (λ m. permits (setup 3 3 10 1 1 m 2)) (2 ∷ 1 ∷ []) ≡ held
+  pub most : map (λ P. permits (setup 3 P 10 4 8 127 127)) (253 ∷ 254 ∷ []) ≡ held
 
 pub edges : Edges
 unfolding permits inRange related allOf within
@@ -66,6 +70,8 @@ edges =
       P-M = refl;
       P-A = refl;
       P-mn = refl;
+      least = refl;
+      most = refl;
     }
 
 abbrev pair : ℕ → ℕ → Pair
@@ -83,7 +89,11 @@ empty = freshBook X
 abbrev seat : Pair → Pair → Pair → Seat
 seat p q r = record { started = true; row = row p q r }
 
--- at desk 0 the seat of desk 1 lags 2, at desk 1 the mail lags 4, at desk 2 slot 0 lags 4; slots 0 and 1 are 2 apart at desk 0
+abbrev kept : Pair → Pair → Option Held
+kept p r = some record { by = 0; to = 0; row = row p (pair 3 0) r }
+
+-- at desk 0 the seat of desk 1 lags 2, at desk 1 the mail lags 4, at desk 2 slot 0 lags 4; slots 2 and 3 hold resets of desk 0, slots 1
+-- and 2 its phase 4, slots 0 and 3 its phase 2, slot 4 its phase 1
 abbrev crowded : Book
 crowded =
     record {
@@ -92,8 +102,8 @@ crowded =
         seat = put (put (put (λ j. idle) 0 (seat (pair 4 1) (pair 3 0) (pair 4 0)))
             1 (seat (pair 2 0) (pair 4 3) (pair 4 0))) 2 (seat (pair 3 0) (pair 3 0) (pair 4 0));
         mail = λ p. some record { by = 0; to = 1; row = row (pair 3 1) (pair 0 0) (pair 2 0) };
-        shelf = put (λ s. some record { by = 0; to = 0; row = row (pair 4 1) (pair 3 0) (pair 4 0) })
-            0 (some record { by = 0; to = 0; row = row (pair 2 1) (pair 3 0) (pair 0 0) });
+        shelf = put (put (put (put (λ s. kept (pair 4 1) (pair 4 0)) 0 (kept (pair 2 1) (pair 0 0))) 2 (kept (pair 4 0) (pair 4 0)))
+            3 (kept (pair 2 0) (pair 4 0))) 4 (kept (pair 1 1) (pair 4 0));
       };
     }
 
@@ -135,21 +145,32 @@ pub crowded-numbers : Numbers crowded
     ∷ (on (write 0 20), 0)
     ∷ (on (before 0 1), 16)
     ∷ (on (before 1 2), 0)
+    ∷ (on (before 1 0), 16)
+    ∷ (on (before 2 0), 0)
+    ∷ (on (before 2 4), 16)
+    ∷ (on (before 3 1), 16)
+    ∷ (on (compare 2 0), 16)
     ∷ [])
-unfolding call step askReasons reasons done permits inRange related allOf within any lowest
+unfolding call step reachBack askReasons reasons done permits inRange related allOf within any lowest
 crowded-numbers = refl
 
--- off the book: two stamps; a setup that is not permitted; a record that does not read, first or second; two stamps 2 phases apart
-abbrev stampAt : ℕ → Option Label
-stampAt v = some record { owner = 0; row = row (pair v 1) (pair 0 0) (pair 0 0) }
+-- off the book: two stamps; a setup that is not permitted; a record that does not read, first or second; two stamps 2 phases apart;
+-- a reset with one 2 phases back, and 3; that one with the reset ahead; both ways
+abbrev stampAt : ℕ → ℕ → Option Label
+stampAt v t = some record { owner = 0; row = row (pair v t) (pair 0 0) (pair 0 0) }
 
-pub off-numbers : (beforeOff X (stampAt 0) (stampAt 1) .number
+pub off-numbers : (beforeOff X (stampAt 0 1) (stampAt 1 1) .number
     ∷ beforeOff (setup 1 5 4 2 4 2 2) none none .number
-    ∷ beforeOff X none (stampAt 0) .number
-    ∷ compareOff X (stampAt 0) none .number
-    ∷ beforeOff X (stampAt 0) (stampAt 2) .number
-    ∷ []) ≡ (0 ∷ 2 ∷ 14 ∷ 14 ∷ 16 ∷ [])
-unfolding permits inRange related allOf within beforeOff compareOff
+    ∷ beforeOff (setup 3 5 4 2 4 3 3) (stampAt 0 1) (stampAt 1 1) .number
+    ∷ beforeOff X none (stampAt 0 1) .number
+    ∷ compareOff X (stampAt 0 1) none .number
+    ∷ beforeOff X (stampAt 0 1) (stampAt 2 1) .number
+    ∷ beforeOff X (stampAt 0 0) (stampAt 3 1) .number
+    ∷ beforeOff X (stampAt 0 0) (stampAt 2 1) .number
+    ∷ beforeOff X (stampAt 0 1) (stampAt 3 0) .number
+    ∷ compareOff X (stampAt 0 0) (stampAt 3 1) .number
+    ∷ []) ≡ (0 ∷ 2 ∷ 2 ∷ 14 ∷ 14 ∷ 16 ∷ 0 ∷ 16 ∷ 16 ∷ 16 ∷ [])
+unfolding permits inRange related allOf within reachBack beforeOff compareOff
 off-numbers = refl
 
 pub other-numbers : (number BadBook ≡ 1) × (number BadLine ≡ 17)

@@ -99,9 +99,9 @@ module _ (Z : Phases) (X : Setup) (b : Tables) where
   unfolding done
   discarded-free p = (refl, let e = eq-eqb p p refl in cc)
 
-  -- The difference between two used slots is lag of e's entry minus lag of f's entry, at e's desk.
+  -- The difference between two used slots is lag of e's entry minus lag of f's entry, at e's desk; e's own clock decides its reach.
   pub gap-is : (s t : ℕ) (e f : Held) → b .shelf s ≡ some e → b .shelf t ≡ some f
-      → gapFrom Z X b s t ≡ near X (lagGap Z (own b (e .by) .phase) (e .row (e .by)) (f .row (e .by)))
+      → gapFrom Z X b s t ≡ near X (e .row (e .by) .clock) (lagGap Z (own b (e .by) .phase) (e .row (e .by)) (f .row (e .by)))
   gap-is s t e f p q = rw (p, q)
 
   -- The questions tell of the stamps in their slots: whether e is before f, how it stands to f, its row, its owner and row.

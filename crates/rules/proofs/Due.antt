@@ -8,7 +8,7 @@ use Prim.Native.Nat.{ℕ, _+_, _*_, _≤_, _<_}
 use native.Mathlib.Omega.{arith}
 use lib.Dec.{ltb, eqb}
 use borrow.Author.Tests.{eqb-true, eqb-false, eq-eqb, ne-eqb, ltb-true, ltb-false, lt-ltb, le-ltb, not-true}
-use Rattle.tools.specs.Tests.{pick, any}
+use Rattle.tools.specs.Tests.{any}
 use Rattle.tools.specs.Reasons.{Holds, Smallest}
 use Rattle.tools.proofs.Reasons.{smallest-swap}
 use Rattle.tools.proofs.Tests.{and-true-l, and-true-r, and-false, any-at, any-true, lt-or-le}
@@ -20,7 +20,7 @@ use Rattle.rules.specs.Model.{Held, Tables, Act, local, reset, keep, dro
 use Rattle.rules.specs.Model.{used, toIn, own, atLimit, lags, near, isOut, gapHeld, askReasons, reasons}
 use Rattle.rules.specs.Due.{at-local, at-send, at-sent, at-receive, at-reset, at-keep, by-local, by-send, by-receive, of-receive}
 use Rattle.rules.specs.Due.{of-discard, OfSlot, of-drop, of-before, of-before′, of-compare, of-compare′, of-show, of-write, Asks}
-use Rattle.rules.specs.Due.{asks-before, asks-compare, asks-back, Gone, lagIn, Beyond, Due, no-desk, same-desk, no-mail, no-slot}
+use Rattle.rules.specs.Due.{asks-before, asks-compare, asks-back, Gone, lagIn, Due, no-desk, same-desk, no-mail, no-slot}
 use Rattle.rules.specs.Due.{not-yours, no-event, phase-full, mail-full, shelf-full, seat-behind, mail-behind, shelf-behind, no-room}
 use Rattle.rules.specs.Due.{out-of-reach, DueNumber}
 use Rattle.rules.specs.Frames.{LowestFree}
@@ -53,18 +53,9 @@ is-gone : (p : ℕ) (o : Option Held) → not (used o && ltb p 32) ≡ true → 
 is-gone p none t = inr refl
 is-gone p (some w) t = inl (is-least p 32 t)
 
-beyond-test : (X : Setup) (d : Gap) → Beyond X (d .up) (d .down) → isOut (near X d) ≡ true
-beyond-test X d (inl l) = rw (le-ltb (d .up) (d .down + X .ahead) l)
-beyond-test X d (inr l) = rw (le-ltb (d .down) (d .up + X .back) l, and-false (ltb (d .up) (d .down + X .ahead)))
-
-is-beyond : (X : Setup) (d : Gap) → isOut (near X d) ≡ true → Beyond X (d .up) (d .down)
-is-beyond X d = go (ltb (d .up) (d .down + X .ahead)) (ltb (d .down) (d .up + X .back)) refl refl
-  where
-    go : (p q : Bool) → ltb (d .up) (d .down + X .ahead) ≡ p → ltb (d .down) (d .up + X .back) ≡ q
-        → isOut (pick (p && q) (some d) none) ≡ true → Beyond X (d .up) (d .down)
-    go true true p q e = absurd (false≢true e)
-    go true false p q e = inr (ltb-false _ _ q)
-    go false q p q′ e = inl (ltb-false _ _ p)
+is-out : (g : Option Gap) → isOut g ≡ true → g ≡ none
+is-out none t = refl
+is-out (some d) t = absurd (false≢true t)
 
 -- the lowest free one is none of them just where all are used
 full : {f : ℕ → Option Held} {n : ℕ} → LowestFree f n → ((p : ℕ) → p < 32 → used (f p) ≡ true) → not (ltb n 32) ≡ true
@@ -92,9 +83,10 @@ module _ (Z : Phases) (X : Setup) (b : Tables) where
   behind j B f p w l e q =
       any-at 32 (λ p. lags Z b j B (f p)) p l (ap (lags Z b j B) e ∙ eq-eqb (lagIn Z b j w) B q)
 
-  out-test : (s t : ℕ) (e f : Held) → b .shelf s ≡ some e → b .shelf t ≡ some f → Beyond X (lagIn Z b (e .by) e) (lagIn Z b (e .by) f)
+  out-test : (s t : ℕ) (e f : Held) → b .shelf s ≡ some e → b .shelf t ≡ some f
+      → near X (e .row (e .by) .clock) (record { up = lagIn Z b (e .by) e; down = lagIn Z b (e .by) f }) ≡ none
       → isOut (gapHeld Z X b (b .shelf s) (b .shelf t)) ≡ true
-  out-test s t e f p q g = rw (p, q) (beyond-test X (record { up = lagIn Z b (e .by) e; down = lagIn Z b (e .by) f }) g)
+  out-test s t e f p q g = (λ i. isOut (gapHeld Z X b (p i) (q i))) ∙ ap isOut g
 
   is-at-limit : (j : ℕ) → atLimit X b j ≡ true → X .clocks ≤ own b j .clock + 1
   is-at-limit j t = is-least (own b j .clock + 1) (X .clocks) t
@@ -158,7 +150,7 @@ module _ (Z : Phases) (X : Setup) (b : Tables) where
       go : (e f : Option Held) → b .shelf s ≡ e → b .shelf t ≡ f → isOut (gapHeld Z X b e f) ≡ true → Down c k
       go none f p p′ h = (5, omega arith, (NoPlace, refl, no-slot os (inr p)))
       go (some e) none p p′ h = (5, omega arith, (NoPlace, refl, no-slot ot (inr p′)))
-      go (some e) (some f) p p′ h = due OutOfReach q (out-of-reach a p p′ (is-beyond X _ h))
+      go (some e) (some f) p p′ h = due OutOfReach q (out-of-reach a p p′ (is-out _ h))
 
   no-two : (c : Act) (s t : ℕ) → OfSlot c s → OfSlot c t → (k : ℕ) → 5 ≡ k
       → (not (used (b .shelf s) && ltb s 32) || not (used (b .shelf t) && ltb t 32)) ≡ true → Down c k

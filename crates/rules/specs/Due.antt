@@ -7,7 +7,6 @@
 --   Asks c s t          c asks about the stamp in slot s and the one in slot t, in this order
 --   Gone p o            the place p is above 31, or free
 --   lagIn Z b j w       the lag of the entry for the desk j in what is held
---   Beyond X up down    the difference up minus down lies outside -(m-1)..n-1
 --   Due Z X b c w       the name w is due to the act c
 --   DueNumber Z X b c n   a name of the number n is due
 use mathlib.Core.Path.{_≡_}
@@ -35,7 +34,7 @@ use Rattle.rules.specs.Numbers.{
   number,
 }
 use Rattle.rules.specs.Model.{Held, Tables, Act, local, reset, keep, drop, discard, send, receive}
-use Rattle.rules.specs.Model.{before, compare, show, write, used, own}
+use Rattle.rules.specs.Model.{before, compare, show, write, used, own, near}
 
 pub data AtDesk : Act → ℕ → Type 0 where
   at-local : {j : ℕ} → AtDesk (local j) j
@@ -74,9 +73,6 @@ Gone p o = (32 ≤ p) ⊎ (o ≡ none)
 abbrev pub lagIn : Phases → Tables → ℕ → Held → ℕ
 lagIn Z b j w = Z .lag (own b j .phase) (w .row j .phase)
 
-abbrev pub Beyond : Setup → ℕ → ℕ → Type 0
-Beyond X up down = (down + X .ahead ≤ up) ⊎ (up + X .back ≤ down)
-
 pub data Due (Z : Phases) (X : Setup) (b : Tables) : Act → Name → Type 0 where
   -- a desk number is D or more
   no-desk : {c : Act} {j : ℕ} → AtDesk c j → X .desks ≤ j → Due Z X b c NoDesk
@@ -108,7 +104,7 @@ pub data Due (Z : Phases) (X : Setup) (b : Tables) : Act → Name → Type 0 whe
   no-room : {s room : ℕ} → room < 20 → Due Z X b (write s room) NoRoom
   -- comparison beyond reach: the difference is lag of e's entry minus lag of f's entry, at the desk of e
   out-of-reach : {c : Act} {s t : ℕ} {e f : Held} → Asks c s t → b .shelf s ≡ some e → b .shelf t ≡ some f
-      → Beyond X (lagIn Z b (e .by) e) (lagIn Z b (e .by) f)
+      → near X (e .row (e .by) .clock) (record { up = lagIn Z b (e .by) e; down = lagIn Z b (e .by) f }) ≡ none
       → Due Z X b c OutOfReach
 
 abbrev pub DueNumber : Phases → Setup → Tables → Act → ℕ → Type 0

@@ -1,5 +1,6 @@
 -- Before, compare and newest off the book: given a setup and two stamp records.
 -- Assumes nothing. In words: docs/RULES.md, "Comparing" and "Stamp records".
+--   orElse g h          the difference g, or where there is none h
 --   gapOff X j e f      the difference from e to f at desk j that two phases of a ring show, none beyond reach
 --   reads, ownerIn, rowRead   of a record as it reads: whether it does, its owner, its row; 0 and zeros where it does not
 --   gapRead X e f       the same of two records as they read, at the first one's owner
@@ -17,8 +18,6 @@ use mathlib.Core.Bool.{Bool, true, false, not, _||_}
 use mathlib.Core.Option.{Option, none, some}
 use mathlib.Core.List.{List, [], _∷_}
 use Prim.Native.Nat.{ℕ, _-_}
-use lib.Dec.{ltb}
-use Rattle.tools.specs.Tests.{pick}
 use Rattle.tools.specs.Reasons.{Reason, first, ifDone}
 use Rattle.ring.specs.Phases.{Gap, lagOf}
 use Rattle.rules.specs.declared.Setup.{Setup}
@@ -26,14 +25,18 @@ use Rattle.rules.specs.declared.Relation.{Relation}
 use Rattle.rules.specs.declared.Relation.the-variants.{Before, After, Same, Concurrent, Crossed}
 use Rattle.rules.specs.Setups.{permits}
 use Rattle.rules.specs.Numbers.{BadSetup, BadStamp, OutOfReach, given}
-use Rattle.rules.specs.Model.{Row, Label, Value, says, relates, Answer, refusal, accepted, zeros, isOut, gapIn, isBefore, relation}
+use Rattle.rules.specs.Model.{Row, Label, Value, says, relates, Answer, refusal, accepted, zeros, near, isOut, gapIn, isBefore, relation}
 
--- r is how far the phase in e lags behind the phase in f: d is r if r <= n-1, else r-P if P-r <= m-1
+abbrev pub orElse : Option Gap → Option Gap → Option Gap
+orElse none h = h
+orElse (some d) h = some d
+
+-- r is how far the phase in e lags behind the phase in f: d is r where that is within reach, else r-P where that is
 abbrev pub gapOff : Setup → ℕ → Row → Row → Option Gap
 gapOff X j e f =
     let r = lagOf (X .phases) (f j .phase) (e j .phase) in
-    pick (ltb r (X .ahead)) (some record { up = r; down = 0 })
-    (pick (ltb (X .phases - r) (X .back)) (some record { up = 0; down = X .phases - r }) none)
+    orElse (near X (e j .clock) (record { up = r; down = 0 }))
+    (near X (e j .clock) (record { up = 0; down = X .phases - r }))
 
 abbrev pub reads : Option Label → Bool
 reads none = false

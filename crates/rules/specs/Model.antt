@@ -23,7 +23,8 @@
 --   freeMail b       the lowest free mail place, or their number where none is free; freeSlot likewise
 --   tick, turn       a pair after local, send or receive; after a reset
 --   grown, merged, turned   a desk's row after local and send; after receive; after reset
---   near X d         d where it is within reach
+--   reachBack X t    a difference within reach is above minus this: m, and m+1 from a reset, t
+--   near X c d       d where it is within reach from a stamp whose own clock is c; a reset's own clock is 0
 --   isOut o, gapIn o whether there is no difference within reach; the difference, 0 where there is none
 --   sameBy d c c′    no difference, and the same clock
 --   isBefore         whether the stamp of the first owner is before that of the second
@@ -233,9 +234,13 @@ tick q = record { phase = q .phase; clock = q .clock + 1 }
 abbrev pub grown : Tables → ℕ → Row
 grown b j = put (b .seat j .row) j (tick (own b j))
 
--- a difference d within reach lies from -(m-1) to n-1
-abbrev pub near : Setup → Gap → Option Gap
-near X d = pick (ltb (d .up) (d .down + X .ahead) && ltb (d .down) (d .up + X .back)) (some d) none
+unfoldable pub reachBack : Setup → Bool → ℕ
+reachBack X t = pick t (X .back + 1) (X .back)
+
+-- a difference d within reach lies from -(m-1) to n-1, from a reset's stamp from -m to n-1
+abbrev pub near : Setup → ℕ → Gap → Option Gap
+near X c d =
+    pick (ltb (d .up) (d .down + X .ahead) && ltb (d .down) (d .up + reachBack X (eqb c 0))) (some d) none
 
 abbrev pub isOut : Option Gap → Bool
 isOut none = true
@@ -314,7 +319,7 @@ module _ (Z : Phases) where
 module _ (Z : Phases) (X : Setup) where
   -- the difference at desk j between two kept rows, by their lags
   abbrev pub gap : Tables → ℕ → Row → Row → Option Gap
-  gap b j e f = near X (lagGap Z (own b j .phase) (e j) (f j))
+  gap b j e f = near X (e j .clock) (lagGap Z (own b j .phase) (e j) (f j))
 
   abbrev pub gapHeld : Tables → Option Held → Option Held → Option Gap
   gapHeld b none f = none

@@ -121,7 +121,7 @@ fn related(s: Setup) -> bool
 {
     (s.seatLag <= s.shelfLag)
         & ((2 * s.seatLag + 1 <= s.phases)
-            & ((s.shelfLag + 1 <= s.phases) & (s.back + s.ahead <= s.phases + 1)))
+            & ((s.shelfLag + 1 <= s.phases) & (s.back + s.ahead <= s.phases)))
 }
 
 // Whether a setup is permitted.

@@ -1,14 +1,20 @@
 -- `comparing::out_of_reach` meets its contract.
 -- Assumes nothing.
+use native.Mathlib.Omega.{arith}
 use borrow.Author.Needs.{needs}
+use Rattle.rules.proofs.Reach.{reach-most}
 use Rattle.comparing.specs.Ways.{gapOf}
 use Rattle.comparing.proofs.Ways.{out-by}
 use Rattle.comparing.proofs.out_of_reach.Statement.{statement}
 use Rattle.comparing.proofs.out_of_reach.Tie as tie
 
+add-result-2 : tie.Need-add-result-2
+add-result-2 c = omega (arith, reach-most _ _ _ (c .before .reach-back .ensures))
+
 returns : tie.Need-returns
-returns c = let x = c .before .before .before .before .args in cc (out-by (x .setup) (gapOf (x .way)))
+returns c = let x = c .before .before .before .before .before .args in cc (out-by (x .setup) (x .way .from) (gapOf (x .way)))
 
 pub out-of-reach-spec : {M : Type 1} → statement M
 out-of-reach-spec =
-    tie.close (tie.spec (λ c κs. search needs) (λ c κs. search needs) (λ c. search needs) (λ c. search needs) returns)
+    tie.close
+    (tie.spec (λ c κs. search needs) (λ c κs. search needs) (λ c κs. search needs) (λ c. search needs) add-result-2 returns)
