@@ -9,9 +9,12 @@ pub mod Causal
 pub mod Good
 pub mod Before
 pub mod Runs
+pub mod Resets
 pub mod Alike
 pub mod Vector
 pub mod Shelf
 pub mod Stamps
 pub mod Labels
 pub mod Agree
+pub mod Contract
+pub mod Substitute

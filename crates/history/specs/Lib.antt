@@ -5,4 +5,5 @@ pub mod Runs
 pub mod History
 pub mod Stamps
 pub mod Vector
+pub mod Contract
 pub mod Demand

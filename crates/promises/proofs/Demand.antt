@@ -11,8 +11,10 @@ use Rattle.rules.specs.Model.{before, compare, used, relates}
 use Rattle.rules.specs.Calls.{Book, Call, start, on}
 use Rattle.history.specs.History.{State, begin, next, after, logAfter, setupAfter}
 use Rattle.history.specs.Round.{roundBook}
-use Rattle.history.specs.Demand.{Stands, BeforeIs, CompareIs}
+use Rattle.history.specs.Demand.{InReach, Stands, BeforeSaid, BeforeIs, CompareSaid, CompareIs}
+use Rattle.history.specs.Contract.{Meets}
 use Rattle.history.proofs.Shelf.{state-before, state-compare, compare-words}
+use Rattle.history.proofs.Substitute.{kept-in, meets-reach}
 use Rattle.book.specs.Sound.{sound}
 use Rattle.book.specs.Codec.{decode, encode}
 use Rattle.book.specs.Answers.{answerTo, bookAfter}
@@ -66,6 +68,25 @@ module _ (s : List ℕ) (X : Setup) (started : answerTo s (start X) .number ≡ 
     compare-chains =
         rw (ring-answer bytes _ together (on (compare i j)))
         (state-compare _ (together .faithful) i j (is-used i ui) (is-used j uj))
+
+    meets : (k l : ℕ) → used (decode bytes .tables .shelf k) ≡ true → used (decode bytes .tables .shelf l) ≡ true
+        → Meets (logAfter X cs) (setupAfter X cs .back) (setupAfter X cs .ahead) (behind k) (behind l)
+        → InReach (setupAfter X cs) (logAfter X cs) (behind k) (behind l)
+    meets k l u v =
+        let there = kept-in (after (begin X) cs) (together .faithful) in
+        meets-reach X (together-start s X started .faithful .permits) cs (behind k) (behind l) (there k (is-used k u)) (there l (is-used l v))
+
+    -- Where their events meet the contract of resettable vector clocks, before is accepted and says whether a chain leads from the
+    -- one to the other.
+    pub contract-before : Meets (logAfter X cs) (setupAfter X cs .back) (setupAfter X cs .ahead) (behind i) (behind j)
+        → BeforeSaid (logAfter X cs) (behind i) (behind j) (answerTo bytes (on (before i j)))
+    contract-before r = before-chains .said (meets i j ui uj r)
+
+    -- Where they do both ways, compare is, and says how the one stands to the other.
+    pub contract-compare : Meets (logAfter X cs) (setupAfter X cs .back) (setupAfter X cs .ahead) (behind i) (behind j)
+        → Meets (logAfter X cs) (setupAfter X cs .back) (setupAfter X cs .ahead) (behind j) (behind i)
+        → CompareSaid (logAfter X cs) (behind i) (behind j) (answerTo bytes (on (compare i j)))
+    contract-compare r r′ = compare-chains .said (meets i j ui uj r) (meets j i uj ui r′)
 
     -- its words stand for a chain one way, the other way, the same event, or neither
     pub words-stand : (r : Relation) → answerTo bytes (on (compare i j)) .value ≡ relates r

@@ -26,12 +26,14 @@ use Rattle.history.specs.History.{State, begin, next, after, logAfter, setupAft
 use Rattle.history.specs.Round.{roundBook}
 use Rattle.history.specs.Stamps.{labelHeld, ownerAt, orShown, stampIn, stampGiven, Answered}
 use Rattle.history.specs.Demand.{InReach, BeforeSaid, CompareSaid}
+use Rattle.history.specs.Contract.{Meets}
 use Rattle.history.proofs.Labels.{off-before, off-compare, off-newest}
 use Rattle.history.proofs.Agree.{state-agree-before, state-agree-compare}
 use Rattle.history.proofs.Alike.{ring-book}
 use Rattle.rules.proofs.Setups.{Permitted, permitted}
 use Rattle.history.proofs.Runs.{after-append}
-use Rattle.history.proofs.Stamps.{next-setup, setup-stays}
+use Rattle.history.proofs.Stamps.{next-setup, setup-stays, answered-stamp}
+use Rattle.history.proofs.Substitute.{meets-reach}
 use Rattle.rules.proofs.Accepted.{no-local, no-send, no-receive, no-reset, no-ask, Hands, no-stamp, row-of, stamp-of, hands}
 use Rattle.book.proofs.Fits.{done-fits}
 use Rattle.book.specs.Sound.{sound}
@@ -218,6 +220,22 @@ module _ (s : List ℕ) (X : Setup) (started : answerTo s (start X) .number ≡ 
         → NewestIs (readUnder X cs) (logAfter X cs) x y r q
     records-newest l m =
         rw (reads r x a, reads q y c) (off-newest X fair cs x y (a .stamp) (c .stamp) (answered r x a) (answered q y c) l m)
+
+    -- Where the events meet the contract of resettable vector clocks, before says so; where they do both ways, compare does.
+    there : x < logAfter X cs .count
+    there = answered-stamp X fair cs (a .stamp) x (answered r x a) .is
+
+    here : y < logAfter X cs .count
+    here = answered-stamp X fair cs (c .stamp) y (answered q y c) .is
+
+    pub contract-records-before : Meets (logAfter X cs) (setupAfter X cs .back) (setupAfter X cs .ahead) x y
+        → BeforeSaid (logAfter X cs) x y (beforeOf (readUnder X cs) r q)
+    contract-records-before w = records-before (meets-reach X fair cs x y there here w)
+
+    pub contract-records-compare : Meets (logAfter X cs) (setupAfter X cs .back) (setupAfter X cs .ahead) x y
+        → Meets (logAfter X cs) (setupAfter X cs .back) (setupAfter X cs .ahead) y x
+        → CompareSaid (logAfter X cs) x y (compareOf (readUnder X cs) r q)
+    contract-records-compare w w′ = records-compare (meets-reach X fair cs x y there here w) (meets-reach X fair cs y x here there w′)
 
   -- two kept stamps, and the records that are written from them
   module _ (i j : ℕ) (e f : Held) (pe : decode bytes .tables .shelf i ≡ some e) (pf : decode bytes .tables .shelf j ≡ some f) where
