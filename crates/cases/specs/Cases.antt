@@ -2,7 +2,7 @@
 -- resets, and one for each refusal that these leave out. Refusals are by their literal numbers.
 -- Assumes nothing.
 --   setupWith P A     the setup of the cases with a ring of P, and kept stamps that may lag A; X, that with 5 and 4
---   uneven            X with a reach of one phase back and three ahead
+--   uneven            X with m of 1 and n of 3
 --   narrow, small     two desks that may lag one phase, as in the listing; the same with clocks and a reach to spare
 --   pair v t          the pair v.t
 --   Made, Shown       a stamp, and a value, as the listing shows it
@@ -27,7 +27,7 @@
 --   laterOf own       the later of phases 4 and 0 in either order, on a ring of 5, at that own phase
 --   apart up down     a difference within reach
 --   stampAt v t       a stamp of desk 0 with the pairs v.t
---   reachFrom v t     the differences from that stamp to those of the phases vs, off the book; numbersFrom, the numbers of before
+--   reachFrom v t vs  the differences off the book from that stamp to those of the phases vs; numbersFrom, the numbers of before
 --   Cases             the one statement: every case is answered as its lines say, whatever book it begins on
 use mathlib.Core.Path.{_≡_}
 use mathlib.Core.Bool.{Bool, true, false}

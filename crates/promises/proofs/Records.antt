@@ -221,17 +221,20 @@ module _ (s : List ℕ) (X : Setup) (started : answerTo s (start X) .number ≡ 
     records-newest l m =
         rw (reads r x a, reads q y c) (off-newest X fair cs x y (a .stamp) (c .stamp) (answered r x a) (answered q y c) l m)
 
-    -- Where the events meet the contract of resettable vector clocks, before says so; where they do both ways, compare does.
+    -- both events are of the log
     there : x < logAfter X cs .count
     there = answered-stamp X fair cs (a .stamp) x (answered r x a) .is
 
     here : y < logAfter X cs .count
     here = answered-stamp X fair cs (c .stamp) y (answered q y c) .is
 
+    -- Where the events meet the contract of resettable vector clocks, before is accepted and says whether a chain leads from the
+    -- one to the other.
     pub contract-records-before : Meets (logAfter X cs) (setupAfter X cs .back) (setupAfter X cs .ahead) x y
         → BeforeSaid (logAfter X cs) x y (beforeOf (readUnder X cs) r q)
     contract-records-before w = records-before (meets-reach X fair cs x y there here w)
 
+    -- Where they do both ways, compare is, and says how the one stands to the other.
     pub contract-records-compare : Meets (logAfter X cs) (setupAfter X cs .back) (setupAfter X cs .ahead) x y
         → Meets (logAfter X cs) (setupAfter X cs .back) (setupAfter X cs .ahead) y x
         → CompareSaid (logAfter X cs) x y (compareOf (readUnder X cs) r q)

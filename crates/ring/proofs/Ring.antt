@@ -4,13 +4,13 @@ use mathlib.Core.Path.{_≡_, refl, ap, sym, _∙_}
 use mathlib.Core.Bool.{Bool, true, false, _&&_}
 use mathlib.Core.Logic.{_⊎_, inl, inr}
 use mathlib.Core.List.{[], _∷_, map}
-use Prim.Native.Nat.{ℕ, _+_, _-_, _%_, _≤_, _<_}
+use Prim.Native.Nat.{ℕ, _+_, _-_, _*_, _%_, _≤_, _<_}
 use native.Mathlib.Omega.{arith}
-use native.Mathlib.Nat.{mod-lt, mod-eq-of-lt, mod-add-mod, add-mod-right, mod-eq-sub-mod, mod-self}
+use native.Mathlib.Nat.{mul-le-mul-right, mod-lt, mod-eq-of-lt, mod-add-mod, add-mod-right, mod-eq-sub-mod, mod-self}
 use native.Mathlib.Decide.{decLt}
 use lib.Dec.{ltb, eqb}
 use borrow.Author.Tests.{eqb-true, eq-eqb, ltb-true, ltb-false, lt-ltb, le-ltb, le-leb, lt-leb}
-use Rattle.tools.proofs.Tests.{and-true-l, or-false-l}
+use Rattle.tools.proofs.Tests.{and-true-l, or-false-l, lt-or-le}
 use Rattle.ring.specs.Phases.{Pair, Phases, Gap, ring, lagOf, nextOf, laterBy, lagGap, isLater, later}
 use Rattle.ring.specs.Remainder.{remainderOf}
 
@@ -112,6 +112,26 @@ ring-back P o v h l =
   where
     e : o + (P - (o - v)) ≡ v + P
     e = omega arith
+
+-- on a ring of P the difference d comes to r: the two are one modulo P
+abbrev pub ComesTo : ℕ → ℕ → Gap → Type 0
+ComesTo P r d = (a : ℕ) × (b : ℕ) × (d .up + a * P ≡ d .down + r + b * P)
+
+-- two numbers less than P apart that are one modulo P
+one-round : (P s t a b : ℕ) → s + a * P ≡ t + b * P → s < t + P → t < s + P → s ≡ t
+one-round P s t a b e l m = go (lt-or-le a b) (lt-or-le b a)
+  where
+    go : (a < b) ⊎ (b ≤ a) → (b < a) ⊎ (a ≤ b) → s ≡ t
+    go (inl u) v = absurd (omega (arith, e, l, mul-le-mul-right P u))
+    go (inr u) (inl v) = absurd (omega (arith, e, m, mul-le-mul-right P v))
+    go (inr u) (inr v) = let q : a * P ≡ b * P = ap (λ n. n * P) (omega arith) in omega (arith, e, q)
+
+-- of differences less than P apart at most one comes to r
+pub comes-once : (P r : ℕ) (d d′ : Gap) → ComesTo P r d → ComesTo P r d′
+    → d .up + d′ .down < d′ .up + d .down + P → d′ .up + d .down < d .up + d′ .down + P
+    → d .up + d′ .down ≡ d′ .up + d .down
+comes-once P r d d′ (a, b, e) (a′, b′, e′) =
+    one-round P (d .up + d′ .down) (d′ .up + d .down) (a + b′) (a′ + b) (omega (arith, e, e′))
 
 -- turning both sides by the same amount changes no lag, and goes with next: no phase is special
 pub turn-lag : (P t own v : ℕ) → own < P → v < P → lagOf P ((own + t) % P) ((v + t) % P) ≡ lagOf P own v

@@ -154,8 +154,8 @@ pub crowded-numbers : Numbers crowded
 unfolding call step reachBack askReasons reasons done permits inRange related allOf within any lowest
 crowded-numbers = refl
 
--- off the book: two stamps; a setup that is not permitted; a record that does not read, first or second; two stamps 2 phases apart;
--- a reset with one 2 phases back, and 3; that one with the reset ahead; both ways
+-- off the book: two stamps; two setups that are not permitted; a record that does not read, first or second; a stamp 2 phases ahead;
+-- from a reset's, one 2 phases back, and one 3 back; from another, a reset's 2 back; a reset's and one 2 back, both ways
 abbrev stampAt : ℕ → ℕ → Option Label
 stampAt v t = some record { owner = 0; row = row (pair v t) (pair 0 0) (pair 0 0) }
 

@@ -11,7 +11,7 @@ use native.Mathlib.Omega.{arith}
 use lib.Dec.{eqb}
 use Rattle.tools.proofs.Tests.{lt-or-le}
 use Rattle.ring.specs.Phases.{Phases, Gap, lagOf}
-use Rattle.ring.proofs.Ring.{lag-below}
+use Rattle.ring.proofs.Ring.{lag-below, ComesTo}
 use Rattle.rules.specs.declared.Setup.{Setup}
 use Rattle.rules.specs.declared.Relation.the-variants.{Before, After, Same, Concurrent, Crossed}
 use Rattle.rules.specs.Setups.{permits}
@@ -19,7 +19,7 @@ use Rattle.rules.specs.Model.{Row, Label, nothing, relates, accepted, ne
 use Rattle.rules.specs.Calls.{Book, start, freshBook, call}
 use Rattle.rules.specs.Labels.{orElse, gapOff, compareOff, First, Second, Neither, newestBy, newestOff}
 use Rattle.rules.proofs.Setups.{Permitted}
-use Rattle.rules.proofs.Reach.{back-event, back-reset, reach-own, near-in, near-ahead, near-back, near-some, ComesTo}
+use Rattle.rules.proofs.Reach.{back-event, back-reset, reach-own, near-in, near-ahead, near-back, near-some}
 
 module _ (X : Setup) (ok : Permitted X) (j : ℕ) (e f : Row) where
   -- the phase in f minus the phase in e, on the ring

@@ -1,19 +1,19 @@
 -- The reach of a comparison in plain numbers: from a stamp that is no reset's d lies from -(m-1) to n-1, from a reset's, whose own
 -- clock is 0, from -m to n-1. On the ring at most one difference within it comes to r.
 -- Assumes nothing.
-use Prim.Native.Nat.{ℕ, _+_, _*_, _≤_, _<_}
+use Prim.Native.Nat.{ℕ, _+_, _≤_, _<_}
 use mathlib.Core.Path.{_≡_, refl, ap}
 use mathlib.Core.Bool.{Bool, true, false, _&&_, true≢false}
 use mathlib.Core.Option.{none, some}
-use mathlib.Core.Logic.{_⊎_, inl, inr, _↔_}
+use mathlib.Core.Logic.{_↔_}
 use native.Mathlib.Omega.{arith}
-use native.Mathlib.Nat.{mul-le-mul-right}
 use lib.Dec.{ltb, eqb}
 use borrow.Author.Tests.{eq-eqb, ne-eqb, ltb-true, lt-ltb, le-ltb}
 use Rattle.tools.specs.Tests.{pick}
-use Rattle.tools.proofs.Tests.{and-false, lt-or-le}
+use Rattle.tools.proofs.Tests.{and-false}
 use Rattle.tools.proofs.Tables.{some-is, none-some}
 use Rattle.ring.specs.Phases.{Gap}
+use Rattle.ring.proofs.Ring.{ComesTo, comes-once}
 use Rattle.rules.specs.declared.Setup.{Setup}
 use Rattle.rules.specs.Setups.{permits}
 use Rattle.rules.specs.Model.{reachBack, near, isOut}
@@ -83,25 +83,11 @@ module _ (X : Setup) (c : ℕ) (d : Gap) where
       let b = back-reset X c q in
       (λ e. let r = in-near (ap isOut e) in (r .0, omega (arith, r .1, b)), λ r. near-in (r .0) (omega (arith, r .1, b)))
 
--- on a ring of P the difference d comes to r: the two are one modulo P
-abbrev pub ComesTo : ℕ → ℕ → Gap → Type 0
-ComesTo P r d = (a : ℕ) × (b : ℕ) × (d .up + a * P ≡ d .down + r + b * P)
-
--- two numbers less than P apart that are one modulo P
-one-round : (P s t a b : ℕ) → s + a * P ≡ t + b * P → s < t + P → t < s + P → s ≡ t
-one-round P s t a b e l m = go (lt-or-le a b) (lt-or-le b a)
-  where
-    go : (a < b) ⊎ (b ≤ a) → (b < a) ⊎ (a ≤ b) → s ≡ t
-    go (inl u) v = absurd (omega (arith, e, l, mul-le-mul-right P u))
-    go (inr u) (inl v) = absurd (omega (arith, e, m, mul-le-mul-right P v))
-    go (inr u) (inr v) = let q : a * P ≡ b * P = ap (λ n. n * P) (omega arith) in omega (arith, e, q)
-
 -- AT MOST ONE difference within reach comes to r, from one stamp under one permitted setup
 pub reach-once : (X : Setup) → permits X ≡ true → (c r : ℕ) (d d′ : Gap) → near X c d ≡ some d → near X c d′ ≡ some d′
     → ComesTo (X .phases) r d → ComesTo (X .phases) r d′ → d .up + d′ .down ≡ d′ .up + d .down
-reach-once X fair c r d d′ n n′ (a, b, e) (a′, b′, e′) =
+reach-once X fair c r d d′ n n′ f f′ =
     let i = in-near X c d (ap isOut n) in
     let i′ = in-near X c d′ (ap isOut n′) in
     let w = reach-round X (permitted X fair) (eqb c 0) in
-    one-round (X .phases) (d .up + d′ .down) (d′ .up + d .down) (a + b′) (a′ + b) (omega (arith, e, e′)) (omega (arith, i, i′, w))
-    (omega (arith, i, i′, w))
+    comes-once (X .phases) r d d′ f f′ (omega (arith, i, i′, w)) (omega (arith, i, i′, w))
