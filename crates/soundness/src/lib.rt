@@ -194,22 +194,68 @@ fn marked(book: &[u8], k: usize, ok: bool) -> bool
         & ((parts::byte_at(book, k, 1) == parts::second_mark(k)) & ok)
 }
 
-// The mark is compared once the kind is known: so it is a constant.
-fn record_sound(book: &[u8], limits: &[u8; 24], k: usize) -> bool
+fn place_sound(book: &[u8], limits: &[u8; 24], k: usize) -> bool
     requires { ⌜ Ready (now book) (now limits) ⌝ }
-    requires { ⌜ k < records ⌝ }
+    requires { ⌜ (mailFrom ≤ k) × (k < shelfFrom) ⌝ }
     ensures { λ r. ⌜ r ≡ recordSound lagOf (now (book .entry)) k ⌝ }
 {
-    if k < parts::SEATS {
-        return marked(book, k, seat_ok(book, limits, k));
-    }
     if parts::tag_a(book, k) == parts::FREE {
         return marked(book, k, free_ok(book, k));
     }
-    if k < parts::SHELF {
-        return marked(book, k, mail_ok(book, limits, k));
+    marked(book, k, mail_ok(book, limits, k))
+}
+
+fn slot_sound(book: &[u8], limits: &[u8; 24], k: usize) -> bool
+    requires { ⌜ Ready (now book) (now limits) ⌝ }
+    requires { ⌜ (shelfFrom ≤ k) × (k < records) ⌝ }
+    ensures { λ r. ⌜ r ≡ recordSound lagOf (now (book .entry)) k ⌝ }
+{
+    if parts::tag_a(book, k) == parts::FREE {
+        return marked(book, k, free_ok(book, k));
     }
     marked(book, k, slot_ok(book, limits, k))
+}
+
+// Each kind of record has its own loop: so its mark is a constant, and no record is asked for its kind.
+fn seats_sound(book: &[u8], limits: &[u8; 24]) -> bool
+    requires { ⌜ Ready (now book) (now limits) ⌝ }
+    ensures { λ r. ⌜ r ≡ allBelow mailFrom (recordSound lagOf (now (book .entry))) ⌝ }
+{
+    let mut ok = true;
+    let mut k: usize = 0;
+    while k < parts::MAIL {
+        ok = ok & marked(book, k, seat_ok(book, limits, k));
+        k += 1;
+    }
+    ok
+}
+
+fn mail_sound(book: &[u8], limits: &[u8; 24], seats: bool) -> bool
+    requires { ⌜ Ready (now book) (now limits) ⌝ }
+    requires { ⌜ seats ≡ allBelow mailFrom (recordSound lagOf (now book)) ⌝ }
+    ensures { λ r. ⌜ r ≡ allBelow shelfFrom (recordSound lagOf (now (book .entry))) ⌝ }
+{
+    let mut ok = seats;
+    let mut k: usize = parts::MAIL;
+    while k < parts::SHELF {
+        ok = ok & place_sound(book, limits, k);
+        k += 1;
+    }
+    ok
+}
+
+fn shelf_sound(book: &[u8], limits: &[u8; 24], mail: bool) -> bool
+    requires { ⌜ Ready (now book) (now limits) ⌝ }
+    requires { ⌜ mail ≡ allBelow shelfFrom (recordSound lagOf (now book)) ⌝ }
+    ensures { λ r. ⌜ r ≡ allBelow records (recordSound lagOf (now (book .entry))) ⌝ }
+{
+    let mut ok = mail;
+    let mut k: usize = parts::SHELF;
+    while k < parts::RECORDS {
+        ok = ok & slot_sound(book, limits, k);
+        k += 1;
+    }
+    ok
 }
 
 fn records_sound(book: &[u8]) -> bool
@@ -217,13 +263,9 @@ fn records_sound(book: &[u8]) -> bool
     ensures { λ r. ⌜ r ≡ allBelow records (recordSound lagOf (now (book .entry))) ⌝ }
 {
     let limits = limits_of(book);
-    let mut ok = true;
-    let mut k: usize = 0;
-    while k < parts::RECORDS {
-        ok = ok & record_sound(book, &limits, k);
-        k += 1;
-    }
-    ok
+    let seats = seats_sound(book, &limits);
+    let mail = mail_sound(book, &limits, seats);
+    shelf_sound(book, &limits, mail)
 }
 
 fn spare_zero(book: &[u8]) -> bool
