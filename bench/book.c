@@ -184,6 +184,12 @@ static size_t lowest_free_slot(const uint8_t *book)
     return slot;
 }
 
+/* An event that is not kept does not ask about the shelf: for it the first slot is as good as free. */
+static size_t slot_for(const uint8_t *book, size_t keep)
+{
+    return keep ? lowest_free_slot(book) : 0;
+}
+
 static int phase_full(const uint8_t *book, const struct setup *s, size_t desk)
 {
     return book[seat_at(desk) + ROW_AT + 2 * desk + 1] == s->clocks - 1;
@@ -208,6 +214,20 @@ static void put_stamp(uint8_t *stamp, size_t owner, size_t desks, const uint8_t 
 static void put_seat_stamp(const uint8_t *book, size_t desk, size_t desks, uint8_t *stamp)
 {
     put_stamp(stamp, desk, desks, book + seat_at(desk) + ROW_AT);
+}
+
+/* The row that an event left in its seat goes to the slot that was found for it. */
+static void keep_row(uint8_t *book, size_t desk, size_t free_slot, uint8_t *slot)
+{
+    uint8_t *kept = book + slot_at(free_slot);
+    kept[2] = (uint8_t)(desk + 1);
+    memcpy(kept + ROW_AT, book + seat_at(desk) + ROW_AT, ROW_BYTES);
+    *slot = (uint8_t)free_slot;
+}
+
+static int event_cramped(size_t stamp_len, size_t keep, size_t slot_len)
+{
+    return stamp_len < STAMP_BYTES || (keep && slot_len < 1);
 }
 
 /* A place or slot becomes free: the mark stays, eighteen zeros follow. */
@@ -243,7 +263,8 @@ uint8_t plain_start(uint8_t *book, size_t book_len, size_t desks, size_t phases,
     return DONE;
 }
 
-uint8_t plain_local(uint8_t *book, size_t book_len, size_t desk, uint8_t *stamp, size_t stamp_len)
+uint8_t plain_local(uint8_t *book, size_t book_len, size_t desk, size_t keep, uint8_t *stamp,
+                    size_t stamp_len, uint8_t *slot, size_t slot_len)
 {
     struct setup s;
     if (!book_sound(book, book_len, &s))
@@ -252,10 +273,15 @@ uint8_t plain_local(uint8_t *book, size_t book_len, size_t desk, uint8_t *stamp,
         return NO_DESK;
     if (phase_full(book, &s, desk))
         return PHASE_FULL;
-    if (stamp_len < STAMP_BYTES)
+    size_t free_slot = slot_for(book, keep);
+    if (free_slot == SLOTS)
+        return SHELF_FULL;
+    if (event_cramped(stamp_len, keep, slot_len))
         return NO_ROOM;
     tick(book, desk);
     put_seat_stamp(book, desk, s.desks, stamp);
+    if (keep)
+        keep_row(book, desk, free_slot, slot);
     return DONE;
 }
 
@@ -267,8 +293,9 @@ static void post(uint8_t *book, size_t place, size_t desk, size_t to)
     memcpy(mail + ROW_AT, book + seat_at(desk) + ROW_AT, ROW_BYTES);
 }
 
-uint8_t plain_send(uint8_t *book, size_t book_len, size_t desk, size_t to, uint8_t *stamp,
-                   size_t stamp_len, uint8_t *place, size_t place_len)
+uint8_t plain_send(uint8_t *book, size_t book_len, size_t desk, size_t to, size_t keep,
+                   uint8_t *stamp, size_t stamp_len, uint8_t *place, size_t place_len,
+                   uint8_t *slot, size_t slot_len)
 {
     struct setup s;
     if (!book_sound(book, book_len, &s))
@@ -279,15 +306,20 @@ uint8_t plain_send(uint8_t *book, size_t book_len, size_t desk, size_t to, uint8
         return SAME_DESK;
     if (phase_full(book, &s, desk))
         return PHASE_FULL;
-    size_t lowest = lowest_free_place(book);
-    if (lowest == PLACES)
+    size_t free_place = lowest_free_place(book);
+    if (free_place == PLACES)
         return MAIL_FULL;
-    if (stamp_len < STAMP_BYTES || place_len < 1)
+    size_t free_slot = slot_for(book, keep);
+    if (free_slot == SLOTS)
+        return SHELF_FULL;
+    if (event_cramped(stamp_len, keep, slot_len) || place_len < 1)
         return NO_ROOM;
     tick(book, desk);
-    post(book, lowest, desk, to);
+    post(book, free_place, desk, to);
     put_seat_stamp(book, desk, s.desks, stamp);
-    *place = (uint8_t)lowest;
+    *place = (uint8_t)free_place;
+    if (keep)
+        keep_row(book, desk, free_slot, slot);
     return DONE;
 }
 
@@ -309,8 +341,8 @@ static void merge(uint8_t *book, const struct setup *s, size_t desk, const uint8
     }
 }
 
-uint8_t plain_receive(uint8_t *book, size_t book_len, size_t desk, size_t place, uint8_t *stamp,
-                      size_t stamp_len)
+uint8_t plain_receive(uint8_t *book, size_t book_len, size_t desk, size_t place, size_t keep,
+                      uint8_t *stamp, size_t stamp_len, uint8_t *slot, size_t slot_len)
 {
     struct setup s;
     if (!book_sound(book, book_len, &s))
@@ -324,13 +356,28 @@ uint8_t plain_receive(uint8_t *book, size_t book_len, size_t desk, size_t place,
         return NOT_YOURS;
     if (phase_full(book, &s, desk))
         return PHASE_FULL;
-    if (stamp_len < STAMP_BYTES)
+    size_t free_slot = slot_for(book, keep);
+    if (free_slot == SLOTS)
+        return SHELF_FULL;
+    if (event_cramped(stamp_len, keep, slot_len))
         return NO_ROOM;
     tick(book, desk);
     merge(book, &s, desk, mail + ROW_AT);
     free_record(mail);
     put_seat_stamp(book, desk, s.desks, stamp);
+    if (keep)
+        keep_row(book, desk, free_slot, slot);
     return DONE;
+}
+
+/* A reset is an event too: the seat is started, and begins the next phase of the ring. */
+static void turn(uint8_t *book, const struct setup *s, size_t desk)
+{
+    uint8_t *seat = book + seat_at(desk);
+    uint8_t *pair = seat + ROW_AT + 2 * desk;
+    seat[2] = 1;
+    pair[0] = (uint8_t)((pair[0] + 1) % s->phases);
+    pair[1] = 0;
 }
 
 /* The row's entry for the desk lags as far as it may, so one more phase is too far. */
@@ -357,46 +404,26 @@ static uint8_t reset_behind(const uint8_t *book, const struct setup *s, size_t d
     return DONE;
 }
 
-uint8_t plain_reset(uint8_t *book, size_t book_len, size_t desk, uint8_t *stamp, size_t stamp_len)
+uint8_t plain_reset(uint8_t *book, size_t book_len, size_t desk, size_t keep, uint8_t *stamp,
+                    size_t stamp_len, uint8_t *slot, size_t slot_len)
 {
     struct setup s;
     if (!book_sound(book, book_len, &s))
         return BAD_BOOK;
     if (desk >= s.desks)
         return NO_DESK;
+    size_t free_slot = slot_for(book, keep);
+    if (free_slot == SLOTS)
+        return SHELF_FULL;
     uint8_t behind = reset_behind(book, &s, desk);
     if (behind != DONE)
         return behind;
-    if (stamp_len < STAMP_BYTES)
+    if (event_cramped(stamp_len, keep, slot_len))
         return NO_ROOM;
-    uint8_t *seat = book + seat_at(desk);
-    uint8_t *pair = seat + ROW_AT + 2 * desk;
-    seat[2] = 1;
-    pair[0] = (uint8_t)((pair[0] + 1) % s.phases);
-    pair[1] = 0;
+    turn(book, &s, desk);
     put_seat_stamp(book, desk, s.desks, stamp);
-    return DONE;
-}
-
-uint8_t plain_keep(uint8_t *book, size_t book_len, size_t desk, uint8_t *slot, size_t slot_len)
-{
-    struct setup s;
-    if (!book_sound(book, book_len, &s))
-        return BAD_BOOK;
-    if (desk >= s.desks)
-        return NO_DESK;
-    const uint8_t *seat = book + seat_at(desk);
-    if (seat[2] == 0)
-        return NO_EVENT;
-    size_t lowest = lowest_free_slot(book);
-    if (lowest == SLOTS)
-        return SHELF_FULL;
-    if (slot_len < 1)
-        return NO_ROOM;
-    uint8_t *kept = book + slot_at(lowest);
-    kept[2] = (uint8_t)(desk + 1);
-    memcpy(kept + ROW_AT, seat + ROW_AT, ROW_BYTES);
-    *slot = (uint8_t)lowest;
+    if (keep)
+        keep_row(book, desk, free_slot, slot);
     return DONE;
 }
 

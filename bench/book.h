@@ -23,13 +23,15 @@ enum {
 
 uint8_t plain_start(uint8_t *book, size_t book_len, size_t desks, size_t phases, size_t clocks,
                     size_t seat_lag, size_t shelf_lag, size_t back, size_t ahead);
-uint8_t plain_local(uint8_t *book, size_t book_len, size_t desk, uint8_t *stamp, size_t stamp_len);
-uint8_t plain_send(uint8_t *book, size_t book_len, size_t desk, size_t to, uint8_t *stamp,
-                   size_t stamp_len, uint8_t *place, size_t place_len);
-uint8_t plain_receive(uint8_t *book, size_t book_len, size_t desk, size_t place, uint8_t *stamp,
-                      size_t stamp_len);
-uint8_t plain_reset(uint8_t *book, size_t book_len, size_t desk, uint8_t *stamp, size_t stamp_len);
-uint8_t plain_keep(uint8_t *book, size_t book_len, size_t desk, uint8_t *slot, size_t slot_len);
+uint8_t plain_local(uint8_t *book, size_t book_len, size_t desk, size_t keep, uint8_t *stamp,
+                    size_t stamp_len, uint8_t *slot, size_t slot_len);
+uint8_t plain_send(uint8_t *book, size_t book_len, size_t desk, size_t to, size_t keep,
+                   uint8_t *stamp, size_t stamp_len, uint8_t *place, size_t place_len,
+                   uint8_t *slot, size_t slot_len);
+uint8_t plain_receive(uint8_t *book, size_t book_len, size_t desk, size_t place, size_t keep,
+                      uint8_t *stamp, size_t stamp_len, uint8_t *slot, size_t slot_len);
+uint8_t plain_reset(uint8_t *book, size_t book_len, size_t desk, size_t keep, uint8_t *stamp,
+                    size_t stamp_len, uint8_t *slot, size_t slot_len);
 uint8_t plain_drop(uint8_t *book, size_t book_len, size_t slot);
 uint8_t plain_discard(uint8_t *book, size_t book_len, size_t place);
 uint8_t plain_before(const uint8_t *book, size_t book_len, size_t first, size_t second,

@@ -1,6 +1,7 @@
 /* One named call, made many times on an empty or a full book, so that its cost can be counted.
  *
- * calls NAME empty|full TIMES prints the last answer, a sum of every byte lent, and the nanoseconds taken.
+ * calls NAME empty|full|almost TIMES prints the last answer, a sum of every byte lent, and the
+ * nanoseconds taken. Almost is full but for its last place.
  * Build with PREFIX plain_ and HEADER "book.h", or PREFIX gulambitok_ and HEADER "gulambitok.h".
  */
 #include HEADER
@@ -19,7 +20,7 @@
 
 enum { BOOK = 1456, STAMP = 20, ROW = 16, DESKS = 8, PLACES_AND_SLOTS = 32, RESET_EVERY = 5 };
 
-static uint8_t book[BOOK], prepared[BOOK], stamp[STAMP], row[ROW], value;
+static uint8_t book[BOOK], prepared[BOOK], stamp[STAMP], row[ROW], slot, value;
 static uint8_t first_label[STAMP], second_label[STAMP];
 static const uint32_t first_vector[VECTOR_DESKS] = {3, 1, 4, 1, 5, 9, 2, 6};
 static const uint32_t second_vector[VECTOR_DESKS] = {3, 1, 4, 2, 5, 9, 2, 7};
@@ -38,43 +39,55 @@ static void fresh(void)
     must(CALL(start)(book, BOOK, SETUP));
 }
 
-static void with_event(void)
-{
-    fresh();
-    must(CALL(local)(book, BOOK, 0, stamp, STAMP));
-}
-
 static void with_mail(void)
 {
     fresh();
-    must(CALL(send)(book, BOOK, 0, 1, stamp, STAMP, &value, 1));
+    must(CALL(send)(book, BOOK, 0, 1, 0, stamp, STAMP, &value, 1, NULL, 0));
 }
 
-/* The mail has gone by the time the second is kept, so the book holds two stamps and no more. */
+/* The mail that is sent is received, so the book holds two stamps and no more. */
 static void with_stamps(void)
 {
-    with_mail();
-    must(CALL(keep)(book, BOOK, 0, &value, 1));
-    must(CALL(receive)(book, BOOK, 1, 0, stamp, STAMP));
-    must(CALL(keep)(book, BOOK, 1, &value, 1));
+    fresh();
+    must(CALL(send)(book, BOOK, 0, 1, 1, stamp, STAMP, &value, 1, &slot, 1));
+    must(CALL(receive)(book, BOOK, 1, 0, 1, stamp, STAMP, &slot, 1));
 }
 
-/* Desks take turns; each is mailed by its neighbour and resets now and then, so rows hold many phases. */
+/* Desks take turns; each is mailed by its neighbour and resets now and then, so rows hold many phases.
+ * The last receipt is not kept: a kept event finds the last slot free. */
+static void shelve(void)
+{
+    for (size_t turn = 0; turn < PLACES_AND_SLOTS; turn++) {
+        size_t desk = turn % DESKS, next = (desk + 1) % DESKS, keep = turn + 1 < PLACES_AND_SLOTS;
+        if (turn % RESET_EVERY == 0)
+            must(CALL(reset)(book, BOOK, desk, 0, stamp, STAMP, NULL, 0));
+        must(CALL(send)(book, BOOK, desk, next, 0, stamp, STAMP, &value, 1, NULL, 0));
+        must(CALL(receive)(book, BOOK, next, value, keep, stamp, STAMP, &slot, 1));
+    }
+}
+
+static void post(size_t mails)
+{
+    for (size_t turn = 0; turn < mails; turn++) {
+        size_t desk = turn % DESKS, next = (desk + 1) % DESKS;
+        must(CALL(send)(book, BOOK, desk, next, 0, stamp, STAMP, &value, 1, NULL, 0));
+    }
+}
+
+/* No place is free, so a send is refused. */
 static void full(void)
 {
     fresh();
-    for (size_t turn = 0; turn < PLACES_AND_SLOTS; turn++) {
-        size_t desk = turn % DESKS, next = (desk + 1) % DESKS;
-        if (turn % RESET_EVERY == 0)
-            must(CALL(reset)(book, BOOK, desk, stamp, STAMP));
-        must(CALL(send)(book, BOOK, desk, next, stamp, STAMP, &value, 1));
-        must(CALL(receive)(book, BOOK, next, value, stamp, STAMP));
-        must(CALL(keep)(book, BOOK, next, &value, 1));
-    }
-    for (size_t turn = 0; turn < PLACES_AND_SLOTS; turn++) {
-        size_t desk = turn % DESKS, next = (desk + 1) % DESKS;
-        must(CALL(send)(book, BOOK, desk, next, stamp, STAMP, &value, 1));
-    }
+    shelve();
+    post(PLACES_AND_SLOTS);
+}
+
+/* The last place is free, so a send is accepted. */
+static void almost_full(void)
+{
+    fresh();
+    shelve();
+    post(PLACES_AND_SLOTS - 1);
 }
 
 static uint8_t no_call(void)
@@ -95,27 +108,42 @@ static uint8_t start(void)
 
 static uint8_t local(void)
 {
-    return CALL(local)(book, BOOK, 0, stamp, STAMP);
+    return CALL(local)(book, BOOK, 0, 0, stamp, STAMP, NULL, 0);
+}
+
+static uint8_t local_kept(void)
+{
+    return CALL(local)(book, BOOK, 0, 1, stamp, STAMP, &slot, 1);
 }
 
 static uint8_t send(void)
 {
-    return CALL(send)(book, BOOK, 0, 1, stamp, STAMP, &value, 1);
+    return CALL(send)(book, BOOK, 0, 1, 0, stamp, STAMP, &value, 1, NULL, 0);
+}
+
+static uint8_t send_kept(void)
+{
+    return CALL(send)(book, BOOK, 0, 1, 1, stamp, STAMP, &value, 1, &slot, 1);
 }
 
 static uint8_t receive(void)
 {
-    return CALL(receive)(book, BOOK, 1, 0, stamp, STAMP);
+    return CALL(receive)(book, BOOK, 1, 0, 0, stamp, STAMP, NULL, 0);
+}
+
+static uint8_t receive_kept(void)
+{
+    return CALL(receive)(book, BOOK, 1, 0, 1, stamp, STAMP, &slot, 1);
 }
 
 static uint8_t reset(void)
 {
-    return CALL(reset)(book, BOOK, 0, stamp, STAMP);
+    return CALL(reset)(book, BOOK, 0, 0, stamp, STAMP, NULL, 0);
 }
 
-static uint8_t keep(void)
+static uint8_t reset_kept(void)
 {
-    return CALL(keep)(book, BOOK, 0, &value, 1);
+    return CALL(reset)(book, BOOK, 0, 1, stamp, STAMP, &slot, 1);
 }
 
 static uint8_t drop(void)
@@ -172,9 +200,11 @@ static uint8_t vectors(void)
 /* Each call, and the least book on which it is accepted. */
 static const struct entry { const char *name; void (*least)(void); uint8_t (*make)(void); } entries[] = {
     {"none", fresh, no_call},          {"sound", fresh, sound},
-    {"start", fresh, start},           {"local", fresh, local},
-    {"send", fresh, send},             {"receive", with_mail, receive},
-    {"reset", fresh, reset},           {"keep", with_event, keep},
+    {"start", fresh, start},
+    {"local", fresh, local},           {"local_kept", fresh, local_kept},
+    {"send", fresh, send},             {"send_kept", fresh, send_kept},
+    {"receive", with_mail, receive},   {"receive_kept", with_mail, receive_kept},
+    {"reset", fresh, reset},           {"reset_kept", fresh, reset_kept},
     {"drop", with_stamps, drop},       {"discard", with_mail, discard},
     {"before", with_stamps, before},   {"compare", with_stamps, compare},
     {"show", with_stamps, show},       {"write", with_stamps, write_slot},
@@ -192,10 +222,20 @@ static const struct entry *entry_named(const char *name)
     return NULL;
 }
 
-/* The labels are the first two slots as records, where the book has them. */
-static void prepare(void (*make_book)(void))
+static void make_book(const struct entry *entry, const char *which)
 {
-    make_book();
+    if (strcmp(which, "full") == 0)
+        full();
+    else if (strcmp(which, "almost") == 0)
+        almost_full();
+    else
+        entry->least();
+}
+
+/* The labels are the first two slots as records, where the book has them. */
+static void prepare(const struct entry *entry, const char *which)
+{
+    make_book(entry, which);
     if (CALL(write)(book, BOOK, 0, first_label, STAMP) == 0)
         must(CALL(write)(book, BOOK, 1, second_label, STAMP));
     memcpy(prepared, book, BOOK);
@@ -213,6 +253,7 @@ static unsigned long sum_of_bytes(void)
     unsigned long sum = add_bytes(14695981039346656037ul, book, BOOK);
     sum = add_bytes(sum, stamp, STAMP);
     sum = add_bytes(sum, row, ROW);
+    sum = add_bytes(sum, &slot, 1);
     return add_bytes(sum, &value, 1);
 }
 
@@ -227,10 +268,10 @@ int main(int words, char **word)
 {
     const struct entry *entry = words == 4 ? entry_named(word[1]) : NULL;
     if (!entry) {
-        fprintf(stderr, "usage: calls NAME empty|full TIMES\n");
+        fprintf(stderr, "usage: calls NAME empty|full|almost TIMES\n");
         return 2;
     }
-    prepare(strcmp(word[2], "full") == 0 ? full : entry->least);
+    prepare(entry, word[2]);
     uint8_t answer = 0;
     long times = atol(word[3]), began = nanoseconds();
     for (long i = 0; i < times; i++) {

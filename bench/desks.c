@@ -7,13 +7,12 @@
 
 enum { LINE_MOST = 64, BLOCK_BYTES = 4096, NUMBERS_MOST = 7 };
 
-enum verb { START, LOCAL, SEND, RECEIVE, RESET, KEEP, DROP, DISCARD, ASK_BEFORE, COMPARE, VERBS };
+enum verb { START, LOCAL, SEND, RECEIVE, RESET, DROP, DISCARD, ASK_BEFORE, COMPARE, VERBS };
 
 static const struct { const char *name; size_t length, numbers; } verbs[VERBS] = {
-    [START] = {"start", 5, 7},     [LOCAL] = {"local", 5, 1},     [SEND] = {"send", 4, 2},
-    [RECEIVE] = {"receive", 7, 2}, [RESET] = {"reset", 5, 1},     [KEEP] = {"keep", 4, 1},
-    [DROP] = {"drop", 4, 1},       [DISCARD] = {"discard", 7, 1}, [ASK_BEFORE] = {"before", 6, 2},
-    [COMPARE] = {"compare", 7, 2}
+    [START] = {"start", 5, 7},     [LOCAL] = {"local", 5, 2},       [SEND] = {"send", 4, 3},
+    [RECEIVE] = {"receive", 7, 3}, [RESET] = {"reset", 5, 2},       [DROP] = {"drop", 4, 1},
+    [DISCARD] = {"discard", 7, 1}, [ASK_BEFORE] = {"before", 6, 2}, [COMPARE] = {"compare", 7, 2}
 };
 
 static const char *const relation_words[] = {
@@ -101,6 +100,17 @@ static int read_verb(const char *text, size_t bytes, enum verb *verb)
     return 0;
 }
 
+static int is_event(enum verb verb)
+{
+    return verb == LOCAL || verb == SEND || verb == RECEIVE || verb == RESET;
+}
+
+/* The last number of an event: 1 to keep its stamp, 0 not to. */
+static size_t wish(const struct call *call)
+{
+    return call->number[verbs[call->verb].numbers - 1];
+}
+
 static int read_call(const char *text, size_t bytes, struct call *call)
 {
     if (!read_verb(text, bytes, &call->verb))
@@ -109,7 +119,7 @@ static int read_call(const char *text, size_t bytes, struct call *call)
     for (size_t i = 0; i < verbs[call->verb].numbers; i++, next += 4)
         if (!read_number(next, &call->number[i]))
             return 0;
-    return 1;
+    return !is_event(call->verb) || wish(call) <= 1;
 }
 
 /* Verbs with nothing to print beside their answer. */
@@ -126,37 +136,31 @@ static uint8_t make_quiet_call(const struct call *c)
     }
 }
 
-static uint8_t make_event(const struct call *c, uint8_t *stamp, uint8_t *place)
+static uint8_t make_event(const struct call *c, uint8_t *stamp, uint8_t *place, uint8_t *slot)
 {
     const size_t *n = c->number;
     switch (c->verb) {
     case LOCAL:
-        return plain_local(book, sizeof book, n[0], stamp, STAMP_BYTES);
+        return plain_local(book, sizeof book, n[0], n[1], stamp, STAMP_BYTES, slot, 1);
     case SEND:
-        return plain_send(book, sizeof book, n[0], n[1], stamp, STAMP_BYTES, place, 1);
+        return plain_send(book, sizeof book, n[0], n[1], n[2], stamp, STAMP_BYTES, place, 1, slot, 1);
     case RECEIVE:
-        return plain_receive(book, sizeof book, n[0], n[1], stamp, STAMP_BYTES);
+        return plain_receive(book, sizeof book, n[0], n[1], n[2], stamp, STAMP_BYTES, slot, 1);
     default:
-        return plain_reset(book, sizeof book, n[0], stamp, STAMP_BYTES);
+        return plain_reset(book, sizeof book, n[0], n[1], stamp, STAMP_BYTES, slot, 1);
     }
 }
 
 static void answer_event(const struct call *c)
 {
-    uint8_t stamp[STAMP_BYTES], place, answer = make_event(c, stamp, &place);
+    uint8_t stamp[STAMP_BYTES], place, slot, answer = make_event(c, stamp, &place, &slot);
     put_number(answer);
     if (answer != DONE)
         return;
     if (c->verb == SEND)
         put_field(place);
     put_stamp_fields(stamp);
-}
-
-static void answer_keep(const struct call *c)
-{
-    uint8_t slot, answer = plain_keep(book, sizeof book, c->number[0], &slot, 1);
-    put_number(answer);
-    if (answer == DONE)
+    if (wish(c))
         put_field(slot);
 }
 
@@ -183,9 +187,6 @@ static void answer_call(const struct call *c)
     switch (c->verb) {
     case LOCAL: case SEND: case RECEIVE: case RESET:
         answer_event(c);
-        break;
-    case KEEP:
-        answer_keep(c);
         break;
     case ASK_BEFORE:
         answer_before(c);

@@ -27,70 +27,83 @@ SETUPS = [
 ]
 REFUSED_SETUP = (8, 256, 255, 100, 200, 100, 100)
 
+EVENTS = ("local", "send", "receive", "reset")
+
+# "kept" stands for an event that is kept, chosen by the weights of the four; the others are not kept.
 WEIGHTS = {
-    "filling": {"local": 12, "send": 34, "receive": 14, "reset": 6, "keep": 18,
+    "filling": {"local": 12, "send": 34, "receive": 14, "reset": 6, "kept": 18,
                 "drop": 1, "discard": 1, "before": 7, "compare": 7},
-    "emptying": {"local": 12, "send": 12, "receive": 24, "reset": 10, "keep": 10,
+    "emptying": {"local": 12, "send": 12, "receive": 24, "reset": 10, "kept": 10,
                  "drop": 13, "discard": 5, "before": 7, "compare": 7},
 }
 
 BAD_LINES = [
-    "", "local", "local 7", "local 0007", "local  000", "local 000 ", " local 000",
-    "Local 000", "send 000", "send 000 001 002", "receive 000,001", "show 000",
-    "write 000", "keep -01", "start 008 255 255", "drop 00x", "drop\t000",
-    "compare 000 001" + 60 * " ", "x" * 64, "x" * 65, "before 000 001\r",
+    "", "local", "local 7 000", "local 0007 000", "local  000 000", "local 000 000 ",
+    " local 000 000", "Local 000 000", "send 000 001", "send 000 001 002",
+    "receive 000,001 000", "show 000", "write 000", "keep 000", "start 008 255 255",
+    "drop 00x", "drop\t000", "compare 000 001" + 60 * " ", "x" * 64, "x" * 65,
+    "before 000 001\r",
 ]
 
 
 class Book:
-    """What the next lines are chosen by: who has started, what waits and what is kept."""
+    """What the next lines are chosen by: the rows, what waits and what is kept."""
 
     def __init__(self, setup):
         self.desks, _, self.clocks, self.seat_lag, self.shelf_lag = setup[:5]
         self.rows = [[(0, 0)] * self.desks for _ in range(self.desks)]
-        self.started = set()
         self.mail = {}
         self.shelf = {}
 
     def phase_full(self, desk):
         return desk < self.desks and self.rows[desk][desk][1] == self.clocks - 1
 
-    def local(self, desk):
-        """Says whether the event took place: send and receive go on from there."""
-        if desk >= self.desks or self.phase_full(desk):
+    def no_slot(self, keep):
+        return keep and len(self.shelf) == SLOTS
+
+    def ticks(self, desk, keep):
+        """Says whether the event takes place: local, send and receive go on from there."""
+        if desk >= self.desks or self.phase_full(desk) or self.no_slot(keep):
             return False
         phase, clock = self.rows[desk][desk]
         self.rows[desk][desk] = (phase, clock + 1)
-        self.started.add(desk)
         return True
 
-    def send(self, desk, to):
-        if to < self.desks and desk != to and len(self.mail) < PLACES and self.local(desk):
-            self.mail[lowest_free(self.mail)] = (to, list(self.rows[desk]))
+    def shelve(self, desk, keep):
+        if keep:
+            self.shelf[lowest_free(self.shelf)] = list(self.rows[desk])
 
-    def receive(self, desk, place):
-        if place in self.mail and self.mail[place][0] == desk and self.local(desk):
+    def local(self, desk, keep):
+        if self.ticks(desk, keep):
+            self.shelve(desk, keep)
+
+    def send(self, desk, to, keep):
+        if to < self.desks and desk != to and len(self.mail) < PLACES and self.ticks(desk, keep):
+            self.mail[lowest_free(self.mail)] = (to, list(self.rows[desk]))
+            self.shelve(desk, keep)
+
+    def receive(self, desk, place, keep):
+        if place in self.mail and self.mail[place][0] == desk and self.ticks(desk, keep):
             _, row = self.mail.pop(place)
             own = self.rows[desk][desk]
             self.rows[desk] = [max(pairs) for pairs in zip(self.rows[desk], row)]
             self.rows[desk][desk] = own
+            self.shelve(desk, keep)
 
     def behind(self, desk, row, most):
         return self.rows[desk][desk][0] - row[desk][0] == most
 
-    def reset(self, desk):
-        if desk >= self.desks or any(self.behind(desk, row, self.seat_lag) for row in self.rows):
+    def reset(self, desk, keep):
+        if desk >= self.desks or self.no_slot(keep):
+            return
+        if any(self.behind(desk, row, self.seat_lag) for row in self.rows):
             return
         if any(self.behind(desk, row, 2 * self.seat_lag) for _, row in self.mail.values()):
             return
         if any(self.behind(desk, row, self.shelf_lag) for row in self.shelf.values()):
             return
         self.rows[desk][desk] = (self.rows[desk][desk][0] + 1, 0)
-        self.started.add(desk)
-
-    def keep(self, desk):
-        if desk in self.started and len(self.shelf) < SLOTS:
-            self.shelf[lowest_free(self.shelf)] = list(self.rows[desk])
+        self.shelve(desk, keep)
 
     def drop(self, slot):
         self.shelf.pop(slot, None)
@@ -136,6 +149,7 @@ def any_sending(choose, book):
 
 
 def any_numbers(choose, book, verb):
+    """All of them but an event's wish to keep."""
     if verb == "receive":
         return any_receipt(choose, book)
     if verb == "send":
@@ -149,19 +163,27 @@ def any_numbers(choose, book, verb):
     return [any_desk(choose, book)]
 
 
-def steered(choose, book, verb, numbers):
+def any_verb(choose, weights):
+    """A verb, and whether it is an event to be kept."""
+    verb = choose.choices(list(weights), list(weights.values()))[0]
+    if verb != "kept":
+        return verb, 0
+    return choose.choices(EVENTS, [weights[event] for event in EVENTS])[0], 1
+
+
+def steered(choose, book, verb, numbers, keep):
     """Where a call is bound to be refused, mostly the one that makes way for it."""
     if choose.random() < 0.15:
-        return verb, numbers
+        return verb, numbers, keep
     if verb in ("receive", "discard") and not book.mail:
         verb, numbers = "send", any_sending(choose, book)
     if verb in ("drop", "before", "compare") and not book.shelf:
-        verb, numbers = "keep", [any_desk(choose, book)]
+        verb, numbers, keep = "local", [any_desk(choose, book)], 1
+    if verb in EVENTS and book.no_slot(keep):
+        return "drop", [any_used(choose, book.shelf)], 0
     if verb in ("local", "send", "receive") and book.phase_full(numbers[0]):
-        return "reset", numbers[:1]
-    if verb == "keep" and len(book.shelf) == SLOTS:
-        return "drop", [any_used(choose, book.shelf)]
-    return verb, numbers
+        return "reset", numbers[:1], keep
+    return verb, numbers, keep
 
 
 def in_text(verb, numbers):
@@ -171,9 +193,10 @@ def in_text(verb, numbers):
 def one_line(choose, book, tide):
     if choose.random() < 0.025:
         return choose.choice(BAD_LINES)
-    weights = WEIGHTS[tide]
-    verb = choose.choices(list(weights), list(weights.values()))[0]
-    verb, numbers = steered(choose, book, verb, any_numbers(choose, book, verb))
+    verb, keep = any_verb(choose, WEIGHTS[tide])
+    verb, numbers, keep = steered(choose, book, verb, any_numbers(choose, book, verb), keep)
+    if verb in EVENTS:
+        numbers = [*numbers, keep]
     getattr(book, verb)(*numbers)
     return in_text(verb, numbers)
 

@@ -18,7 +18,8 @@ static int done(uint8_t answer)
     return answer == GULAMBITOK_DONE;
 }
 
-static void print_event(uint8_t answer, const uint8_t *place)
+/* Only a send has a place, and only a kept event a slot. */
+static void print_event(uint8_t answer, const uint8_t *place, const uint8_t *slot)
 {
     if (done(answer)) {
         if (place)
@@ -28,14 +29,9 @@ static void print_event(uint8_t answer, const uint8_t *place)
             const uint8_t *pair = stamp + GULAMBITOK_STAMP_ROW_AT + 2 * desk;
             printf(" %03d.%03d", pair[0], pair[1]);
         }
+        if (slot)
+            printf(" %03d", *slot);
     }
-    puts("");
-}
-
-static void print_slot(uint8_t answer, const uint8_t *slot)
-{
-    if (done(answer))
-        printf(" %03d", *slot);
     puts("");
 }
 
@@ -45,15 +41,15 @@ int main(void)
 
     done(gulambitok_start(book, sizeof book, 2, 3, 3, 1, 1, 1, 1));
     puts("");
-    print_event(gulambitok_local(book, sizeof book, 0, stamp, sizeof stamp), NULL);
-    print_slot(gulambitok_keep(book, sizeof book, 0, &first, 1), &first);
-    print_event(gulambitok_send(book, sizeof book, 0, 1, stamp, sizeof stamp, &place, 1), &place);
-    print_event(gulambitok_receive(book, sizeof book, 1, place, stamp, sizeof stamp), NULL);
-    print_slot(gulambitok_keep(book, sizeof book, 1, &second, 1), &second);
+    print_event(gulambitok_local(book, sizeof book, 0, 1, stamp, sizeof stamp, &first, 1), NULL, &first);
+    print_event(gulambitok_send(book, sizeof book, 0, 1, 0, stamp, sizeof stamp, &place, 1, NULL, 0),
+                &place, NULL);
+    print_event(gulambitok_receive(book, sizeof book, 1, place, 1, stamp, sizeof stamp, &second, 1),
+                NULL, &second);
     if (done(gulambitok_compare(book, sizeof book, first, second, &relation, 1)))
         printf(" %s", relations[relation]);
     puts("");
-    print_event(gulambitok_reset(book, sizeof book, 0, stamp, sizeof stamp), NULL);
-    print_event(gulambitok_reset(book, sizeof book, 0, stamp, sizeof stamp), NULL);
+    for (int turn = 0; turn < 2; turn++)
+        print_event(gulambitok_reset(book, sizeof book, 0, 0, stamp, sizeof stamp, NULL, 0), NULL, NULL);
     return 0;
 }

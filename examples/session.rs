@@ -8,16 +8,18 @@ const RELATIONS: [&str; 6] = ["", "before", "after", "same", "concurrent", "cros
 extern "C" {
     fn gulambitok_start(book: &mut [u8; BOOK], book_len: usize, desks: usize, phases: usize, clocks: usize,
                         seat_lag: usize, shelf_lag: usize, back: usize, ahead: usize) -> u8;
-    fn gulambitok_local(book: &mut [u8; BOOK], book_len: usize, desk: usize,
-                        stamp: &mut [u8; STAMP], stamp_len: usize) -> u8;
-    fn gulambitok_send(book: &mut [u8; BOOK], book_len: usize, desk: usize, to: usize,
-                       stamp: &mut [u8; STAMP], stamp_len: usize, place: &mut u8, place_len: usize) -> u8;
-    fn gulambitok_receive(book: &mut [u8; BOOK], book_len: usize, desk: usize, place: usize,
-                          stamp: &mut [u8; STAMP], stamp_len: usize) -> u8;
-    fn gulambitok_reset(book: &mut [u8; BOOK], book_len: usize, desk: usize,
-                        stamp: &mut [u8; STAMP], stamp_len: usize) -> u8;
-    fn gulambitok_keep(book: &mut [u8; BOOK], book_len: usize, desk: usize,
-                       slot: &mut u8, slot_len: usize) -> u8;
+    fn gulambitok_local(book: &mut [u8; BOOK], book_len: usize, desk: usize, keep: usize,
+                        stamp: &mut [u8; STAMP], stamp_len: usize,
+                        slot: Option<&mut u8>, slot_len: usize) -> u8;
+    fn gulambitok_send(book: &mut [u8; BOOK], book_len: usize, desk: usize, to: usize, keep: usize,
+                       stamp: &mut [u8; STAMP], stamp_len: usize, place: &mut u8, place_len: usize,
+                       slot: Option<&mut u8>, slot_len: usize) -> u8;
+    fn gulambitok_receive(book: &mut [u8; BOOK], book_len: usize, desk: usize, place: usize, keep: usize,
+                          stamp: &mut [u8; STAMP], stamp_len: usize,
+                          slot: Option<&mut u8>, slot_len: usize) -> u8;
+    fn gulambitok_reset(book: &mut [u8; BOOK], book_len: usize, desk: usize, keep: usize,
+                        stamp: &mut [u8; STAMP], stamp_len: usize,
+                        slot: Option<&mut u8>, slot_len: usize) -> u8;
     fn gulambitok_compare(book: &[u8; BOOK], book_len: usize, first: usize, second: usize,
                           answer: &mut u8, answer_len: usize) -> u8;
 }
@@ -35,23 +37,20 @@ fn stamp_fields(stamp: &[u8; STAMP]) -> String {
 fn main() {
     let (mut book, mut stamp) = ([0; BOOK], [0; STAMP]);
     let (mut place, mut first, mut second, mut relation) = (0, 0, 0, 0);
-    // Each length below is that of the array or byte before it, and no two of them overlap.
+    // Each length below is that of the array or byte before it, 0 where there is none. No two overlap.
     unsafe {
         print_line(gulambitok_start(&mut book, BOOK, 2, 3, 3, 1, 1, 1, 1), "");
-        let answer = gulambitok_local(&mut book, BOOK, 0, &mut stamp, STAMP);
-        print_line(answer, &stamp_fields(&stamp));
-        let answer = gulambitok_keep(&mut book, BOOK, 0, &mut first, 1);
-        print_line(answer, &format!(" {first:03}"));
-        let answer = gulambitok_send(&mut book, BOOK, 0, 1, &mut stamp, STAMP, &mut place, 1);
+        let answer = gulambitok_local(&mut book, BOOK, 0, 1, &mut stamp, STAMP, Some(&mut first), 1);
+        print_line(answer, &(stamp_fields(&stamp) + &format!(" {first:03}")));
+        let answer = gulambitok_send(&mut book, BOOK, 0, 1, 0, &mut stamp, STAMP, &mut place, 1, None, 0);
         print_line(answer, &(format!(" {place:03}") + &stamp_fields(&stamp)));
-        let answer = gulambitok_receive(&mut book, BOOK, 1, place.into(), &mut stamp, STAMP);
-        print_line(answer, &stamp_fields(&stamp));
-        let answer = gulambitok_keep(&mut book, BOOK, 1, &mut second, 1);
-        print_line(answer, &format!(" {second:03}"));
+        let answer = gulambitok_receive(&mut book, BOOK, 1, place.into(), 1, &mut stamp, STAMP,
+                                        Some(&mut second), 1);
+        print_line(answer, &(stamp_fields(&stamp) + &format!(" {second:03}")));
         let answer = gulambitok_compare(&book, BOOK, first.into(), second.into(), &mut relation, 1);
         print_line(answer, &format!(" {}", RELATIONS[relation as usize]));
         for _ in 0..2 {
-            let answer = gulambitok_reset(&mut book, BOOK, 0, &mut stamp, STAMP);
+            let answer = gulambitok_reset(&mut book, BOOK, 0, 0, &mut stamp, STAMP, None, 0);
             print_line(answer, &stamp_fields(&stamp));
         }
     }

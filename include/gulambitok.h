@@ -30,10 +30,10 @@ enum {
     GULAMBITOK_SAME_DESK = 4,     /* send to oneself */
     GULAMBITOK_NO_PLACE = 5,      /* place or slot above 31, or free */
     GULAMBITOK_NOT_YOURS = 6,     /* mail addressed to another desk */
-    GULAMBITOK_NO_EVENT = 7,      /* keep at a seat not started */
+    GULAMBITOK_NO_EVENT = 7,      /* never given */
     GULAMBITOK_PHASE_FULL = 8,    /* local, send or receive at own clock L-1 */
     GULAMBITOK_MAIL_FULL = 9,     /* send with no free place */
-    GULAMBITOK_SHELF_FULL = 10,   /* keep with no free slot */
+    GULAMBITOK_SHELF_FULL = 10,   /* a kept event with no free slot */
     GULAMBITOK_SEAT_BEHIND = 11,  /* reset; the entry for the desk lags M in another seat */
     GULAMBITOK_MAIL_BEHIND = 12,  /* reset; the entry for the desk lags 2M in a waiting row */
     GULAMBITOK_SHELF_BEHIND = 13, /* reset; the entry for the desk lags A in a kept row */
@@ -114,28 +114,32 @@ enum {
 uint8_t gulambitok_start(uint8_t *book, size_t book_len, size_t desks, size_t phases, size_t clocks,
                          size_t seat_lag, size_t shelf_lag, size_t back, size_t ahead);
 
+/* Local, send, receive and reset are the events. Each takes a number for the wish to keep its
+ * stamp: 0 is no, any other is yes. A kept event puts its stamp into the lowest free slot as well
+ * and writes the slot in one byte; without a free slot it is refused whole. An event that is not
+ * kept neither asks nor writes the slot buffer. */
+
 /* Local at a desk: its own clock grows by 1. Writes the stamp, a record of 20 bytes.
- * Refusals: 1, 3, 8, 15. */
-uint8_t gulambitok_local(uint8_t *book, size_t book_len, size_t desk, uint8_t *stamp, size_t stamp_len);
+ * Refusals: 1, 3, 8, 10, 15. */
+uint8_t gulambitok_local(uint8_t *book, size_t book_len, size_t desk, size_t keep, uint8_t *stamp,
+                         size_t stamp_len, uint8_t *slot, size_t slot_len);
 
 /* Send from a desk to another: as local, then its row goes into the lowest free mail place.
- * Writes the stamp, and the place in one byte. Refusals: 1, 3, 4, 8, 9, 15. */
-uint8_t gulambitok_send(uint8_t *book, size_t book_len, size_t desk, size_t to, uint8_t *stamp,
-                        size_t stamp_len, uint8_t *place, size_t place_len);
+ * Writes the stamp, and the place in one byte. Refusals: 1, 3, 4, 8, 9, 10, 15. */
+uint8_t gulambitok_send(uint8_t *book, size_t book_len, size_t desk, size_t to, size_t keep,
+                        uint8_t *stamp, size_t stamp_len, uint8_t *place, size_t place_len,
+                        uint8_t *slot, size_t slot_len);
 
 /* Receive at a desk from a place: its own clock grows by 1; for every other desk the later of the
  * two pairs is taken; the place becomes free. Any waiting mail may be taken, in any order. Writes
- * the stamp. Refusals: 1, 3, 5, 6, 8, 15. */
-uint8_t gulambitok_receive(uint8_t *book, size_t book_len, size_t desk, size_t place, uint8_t *stamp,
-                           size_t stamp_len);
+ * the stamp. Refusals: 1, 3, 5, 6, 8, 10, 15. */
+uint8_t gulambitok_receive(uint8_t *book, size_t book_len, size_t desk, size_t place, size_t keep,
+                           uint8_t *stamp, size_t stamp_len, uint8_t *slot, size_t slot_len);
 
 /* Reset at a desk: its own phase grows by 1 modulo P and its own clock becomes 0; no other seat
- * changes. Writes the stamp. Refusals: 1, 3, 11, 12, 13, 15. */
-uint8_t gulambitok_reset(uint8_t *book, size_t book_len, size_t desk, uint8_t *stamp, size_t stamp_len);
-
-/* Keep at a desk copies its present row to the lowest free slot. Writes the slot in one byte. It
- * is no event. Refusals: 1, 3, 7, 10, 15. */
-uint8_t gulambitok_keep(uint8_t *book, size_t book_len, size_t desk, uint8_t *slot, size_t slot_len);
+ * changes. Writes the stamp. Refusals: 1, 3, 10, 11, 12, 13, 15. */
+uint8_t gulambitok_reset(uint8_t *book, size_t book_len, size_t desk, size_t keep, uint8_t *stamp,
+                         size_t stamp_len, uint8_t *slot, size_t slot_len);
 
 /* Drop frees a slot; it is no event. Refusals: 1, 5. */
 uint8_t gulambitok_drop(uint8_t *book, size_t book_len, size_t slot);

@@ -3,7 +3,8 @@
 Every call takes the book (bytes of any length) and whole numbers of any size,
 and hands back (number, values, book): the answer number, the values (none when
 refused) and the bytes afterwards (the book it was lent when nothing changes).
-The lent book itself is never written to.
+The lent book itself is never written to. An event's last number is the wish to
+keep its stamp: 0 is no, any other is yes, and its slot is then the last value.
 
 Off the book, the calls take a setup and two stamp records and hand back
 (number, values).
@@ -170,10 +171,6 @@ def shelf_sound(book):
 
 # What the calls ask of a sound book
 
-def started(book, desk):
-    return book[seat_at(desk) + 2] == 1
-
-
 def place_used(book, place):
     return place < PLACES and book[place_at(place) + 2] != 0
 
@@ -192,6 +189,11 @@ def lowest_free_slot(book):
 
 def phase_full(book, desk):
     return book[own_entry(desk) + 1] == setup_of(book).L - 1
+
+
+def shelf_full(book, keep):
+    """Who does not wish to keep does not ask about the shelf."""
+    return keep != 0 and lowest_free_slot(book) is None
 
 
 def lag(book, desk, phase):
@@ -238,19 +240,39 @@ def start(book, *numbers):
                       + (SHELF_MARK + FREE) * SLOTS)
 
 
-def local(book, desk):
+def put_on_shelf(after, desk, keep):
+    """Where it is wished, the row that an event left in its seat is kept; the slot is a value."""
+    if keep == 0:
+        return ()
+    slot = lowest_free_slot(after)
+    kept = SHELF_MARK + bytes((desk + 1, 0)) + row_at(after, seat_at(desk))
+    after[slot_at(slot):slot_at(slot + 1)] = kept
+    return (slot,)
+
+
+def local_number(book, desk, keep):
     if not sound(book):
-        return refused(BAD_BOOK, book)
+        return BAD_BOOK
     if desk >= setup_of(book).D:
-        return refused(NO_DESK, book)
+        return NO_DESK
     if phase_full(book, desk):
-        return refused(PHASE_FULL, book)
+        return PHASE_FULL
+    if shelf_full(book, keep):
+        return SHELF_FULL
+    return DONE
+
+
+def local(book, desk, keep):
+    number = local_number(book, desk, keep)
+    if number != DONE:
+        return refused(number, book)
     after = bytearray(book)
     tick(after, desk)
-    return DONE, (stamp_of_seat(after, desk),), bytes(after)
+    slot = put_on_shelf(after, desk, keep)
+    return DONE, (stamp_of_seat(after, desk), *slot), bytes(after)
 
 
-def send_number(book, desk, to):
+def send_number(book, desk, to, keep):
     if not sound(book):
         return BAD_BOOK
     if desk >= setup_of(book).D or to >= setup_of(book).D:
@@ -261,11 +283,13 @@ def send_number(book, desk, to):
         return PHASE_FULL
     if lowest_free_place(book) is None:
         return MAIL_FULL
+    if shelf_full(book, keep):
+        return SHELF_FULL
     return DONE
 
 
-def send(book, desk, to):
-    number = send_number(book, desk, to)
+def send(book, desk, to, keep):
+    number = send_number(book, desk, to, keep)
     if number != DONE:
         return refused(number, book)
     place = lowest_free_place(book)
@@ -273,10 +297,11 @@ def send(book, desk, to):
     tick(after, desk)
     mail = MAIL_MARK + bytes((desk + 1, to + 1)) + row_at(after, seat_at(desk))
     after[place_at(place):place_at(place + 1)] = mail
-    return DONE, (place, stamp_of_seat(after, desk)), bytes(after)
+    slot = put_on_shelf(after, desk, keep)
+    return DONE, (place, stamp_of_seat(after, desk), *slot), bytes(after)
 
 
-def receive_number(book, desk, place):
+def receive_number(book, desk, place, keep):
     if not sound(book):
         return BAD_BOOK
     if desk >= setup_of(book).D:
@@ -287,18 +312,21 @@ def receive_number(book, desk, place):
         return NOT_YOURS
     if phase_full(book, desk):
         return PHASE_FULL
+    if shelf_full(book, keep):
+        return SHELF_FULL
     return DONE
 
 
-def receive(book, desk, place):
-    number = receive_number(book, desk, place)
+def receive(book, desk, place, keep):
+    number = receive_number(book, desk, place, keep)
     if number != DONE:
         return refused(number, book)
     after = bytearray(book)
     merge(after, book, desk, place)
     tick(after, desk)
     free_place(after, place)
-    return DONE, (stamp_of_seat(after, desk),), bytes(after)
+    slot = put_on_shelf(after, desk, keep)
+    return DONE, (stamp_of_seat(after, desk), *slot), bytes(after)
 
 
 def merge(after, book, desk, place):
@@ -315,12 +343,19 @@ def free_place(after, place):
     after[place_at(place):place_at(place + 1)] = MAIL_MARK + FREE
 
 
-def reset_number(book, desk):
+def reset_number(book, desk, keep):
     if not sound(book):
         return BAD_BOOK
-    setup = setup_of(book)
-    if desk >= setup.D:
+    if desk >= setup_of(book).D:
         return NO_DESK
+    if shelf_full(book, keep):
+        return SHELF_FULL
+    return lag_number(book, desk)
+
+
+def lag_number(book, desk):
+    """What stands in the way of a reset: a lag that may not grow."""
+    setup = setup_of(book)
     if any(lag_in(book, seat_at(other), desk) == setup.M
            for other in range(setup.D) if other != desk):
         return SEAT_BEHIND
@@ -333,8 +368,8 @@ def reset_number(book, desk):
     return DONE
 
 
-def reset(book, desk):
-    number = reset_number(book, desk)
+def reset(book, desk, keep):
+    number = reset_number(book, desk, keep)
     if number != DONE:
         return refused(number, book)
     after = bytearray(book)
@@ -342,33 +377,11 @@ def reset(book, desk):
     after[own] = (book[own] + 1) % setup_of(book).P
     after[own + 1] = 0
     after[seat_at(desk) + 2] = 1
-    return DONE, (stamp_of_seat(after, desk),), bytes(after)
+    slot = put_on_shelf(after, desk, keep)
+    return DONE, (stamp_of_seat(after, desk), *slot), bytes(after)
 
 
 # Shelf and mail
-
-def keep_number(book, desk):
-    if not sound(book):
-        return BAD_BOOK
-    if desk >= setup_of(book).D:
-        return NO_DESK
-    if not started(book, desk):
-        return NO_EVENT
-    if lowest_free_slot(book) is None:
-        return SHELF_FULL
-    return DONE
-
-
-def keep(book, desk):
-    number = keep_number(book, desk)
-    if number != DONE:
-        return refused(number, book)
-    slot = lowest_free_slot(book)
-    after = bytearray(book)
-    kept = SHELF_MARK + bytes((desk + 1, 0)) + row_at(book, seat_at(desk))
-    after[slot_at(slot):slot_at(slot + 1)] = kept
-    return DONE, (slot,), bytes(after)
-
 
 def drop(book, slot):
     if not sound(book):

@@ -89,14 +89,27 @@ class Run:
         phase, clock = self.own(desk)
         return self.happen(desk, (phase, clock + 1), mail)
 
-    def local(self, desk):
+    def no_slot(self, keep):
+        return bool(keep) and None not in self.shelf
+
+    def given(self, event, keep):
+        """The event, and where it is kept the slot that it itself stands behind."""
+        if not keep:
+            return (event,)
+        slot = first_free(self.shelf)
+        self.shelf[slot] = event
+        return event, slot
+
+    def local(self, desk, keep):
         if desk >= self.D:
             return 3, ()
         if self.full(desk):
             return 8, ()
-        return 0, (self.tick(desk),)
+        if self.no_slot(keep):
+            return 10, ()
+        return 0, self.given(self.tick(desk), keep)
 
-    def send(self, desk, to):
+    def send(self, desk, to, keep):
         if max(desk, to) >= self.D:
             return 3, ()
         if desk == to:
@@ -106,11 +119,13 @@ class Run:
         place = first_free(self.mail)
         if place is None:
             return 9, ()
+        if self.no_slot(keep):
+            return 10, ()
         event = self.tick(desk)
         self.mail[place] = (event, to)
-        return 0, (place, event)
+        return 0, (place, *self.given(event, keep))
 
-    def receive(self, desk, place):
+    def receive(self, desk, place, keep):
         if desk >= self.D:
             return 3, ()
         if not used(self.mail, place):
@@ -120,35 +135,29 @@ class Run:
             return 6, ()
         if self.full(desk):
             return 8, ()
+        if self.no_slot(keep):
+            return 10, ()
         self.mail[place] = None
-        return 0, (self.tick(desk, sent),)
+        return 0, self.given(self.tick(desk, sent), keep)
 
-    def reset(self, desk):
+    def reset(self, desk, keep):
         if desk >= self.D:
             return 3, ()
+        if self.no_slot(keep):
+            return 10, ()
         seats = [self.pairs(other) for other in range(self.D)]
         if any(self.behind(desk, seat) >= self.M for seat in seats):
             return 11, ()
         waiting = [mail[0].pairs for mail in self.mail if mail]
         if any(self.behind(desk, row) >= 2 * self.M for row in waiting):
             return 12, ()
-        kept = [event.pairs for event in self.shelf if event]
-        if any(self.behind(desk, row) >= self.A for row in kept):
+        shelf = [event.pairs for event in self.shelf if event]
+        if any(self.behind(desk, row) >= self.A for row in shelf):
             return 13, ()
-        return 0, (self.happen(desk, (self.own(desk)[0] + 1, 0), is_reset=True),)
+        event = self.happen(desk, (self.own(desk)[0] + 1, 0), is_reset=True)
+        return 0, self.given(event, keep)
 
     # Shelf and mail
-
-    def keep(self, desk):
-        if desk >= self.D:
-            return 3, ()
-        if self.last[desk] is None:
-            return 7, ()
-        slot = first_free(self.shelf)
-        if slot is None:
-            return 10, ()
-        self.shelf[slot] = self.last[desk]
-        return 0, (slot,)
 
     def drop(self, slot):
         return self.free(self.shelf, slot)

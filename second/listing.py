@@ -15,8 +15,8 @@ sys.path.insert(0, os.path.dirname(os.path.dirname(os.path.abspath(__file__))))
 
 from second import book, line
 
-VERBS = {b"start": 7, b"local": 1, b"send": 2, b"receive": 2, b"reset": 1,
-         b"keep": 1, b"drop": 1, b"discard": 1, b"before": 2, b"compare": 2}
+VERBS = {b"start": 7, b"local": 2, b"send": 3, b"receive": 3, b"reset": 2,
+         b"drop": 1, b"discard": 1, b"before": 2, b"compare": 2}
 EVENTS = ("local", "send", "receive", "reset")
 QUESTIONS = ("before", "compare")
 LONGEST = 64
@@ -38,10 +38,12 @@ def parse(text):
     shape = SHAPE.fullmatch(text) if len(text) <= LONGEST else None
     if shape is None:
         return None
-    numbers = [int(field) for field in shape[2].split()]
+    verb, numbers = shape[1].decode(), [int(field) for field in shape[2].split()]
     if VERBS.get(shape[1]) != len(numbers):
         return None
-    return shape[1].decode(), numbers
+    if verb in EVENTS and numbers[-1] not in (0, 1):
+        return None
+    return verb, numbers
 
 
 def in_words(number, fields=()):

@@ -6,9 +6,10 @@
 DRIVER is tests/raw_driver.c, linked to the library: it makes the calls that it
 is asked for. A prefix to run it by is given by --runner. `tests/raw` builds it.
 
-Sound books made at random (unreachable ones too), bytes damaged at every
-offset, phases off the ring, wrong lengths and odd numbers. The answer and every
-byte of every lent buffer, and of the bytes on both sides of it, must be alike.
+Sound books made at random (unreachable ones too), full shelves, bytes damaged
+at every offset, phases off the ring, wrong lengths and odd numbers. The answer
+and every byte of every lent buffer, and of the bytes on both sides of it, must
+be alike.
 The first difference is printed and ends with 1.
 """
 
@@ -25,23 +26,31 @@ import sys
 sys.path.insert(0, os.path.dirname(os.path.dirname(os.path.abspath(__file__))))
 
 from second import book, seeds
+from second.listing import EVENTS
 
 # How many numbers each call takes, and the bytes its value buffers need.
 BOOK_CALLS = {
-    "start": (7, ()), "local": (1, (20,)), "send": (2, (20, 1)),
-    "receive": (2, (20,)), "reset": (1, (20,)), "keep": (1, (1,)),
-    "drop": (1, ()), "discard": (1, ()), "before": (2, (1,)),
-    "compare": (2, (1,)), "show": (1, (16,)), "write": (1, (20,)),
+    "start": (7, ()), "local": (2, (20, 1)), "send": (3, (20, 1, 1)),
+    "receive": (3, (20, 1)), "reset": (2, (20, 1)), "drop": (1, ()),
+    "discard": (1, ()), "before": (2, (1,)), "compare": (2, (1,)),
+    "show": (1, (16,)), "write": (1, (20,)),
 }
 LABEL_CALLS = ("label_before", "label_compare", "label_newest")
 NEEDS = {name: needs for name, (_, needs) in BOOK_CALLS.items()}
 NEEDS.update((name, (1,)) for name in LABEL_CALLS)
 
+# Numbers for the wish to keep: 0 is no, any other is yes.
+WISHES = (0, 1, 2, 255, 256, 2**32, 2**64 - 1)
+
+# What an event that is not kept answers to a desk and a place that are there.
+UNKEPT = (("local", 0), ("local", 8), ("send", 0), ("send", 8), ("send", 9), ("receive", 0),
+          ("receive", 8), ("reset", 0), ("reset", 11), ("reset", 12), ("reset", 13))
+
 RELATIONS = ("before", "after", "same", "concurrent", "crossed")
 WRONG_LENGTHS = (0, 1, 1455, 1457)
 WRONG_LABEL_LENGTHS = (0, 1, 2, 19, 21, 40)
 GUARD = 24
-DEFAULT_CALLS = 6000
+DEFAULT_CALLS = 7000
 SOUND_BOOKS = 600
 BATCH = 250
 
@@ -115,7 +124,15 @@ def answer_of(name, arguments):
     if name == "write":
         numbers.append(lent[1])
     number, values, after = getattr(book, name)(lent[0], *numbers)
-    return number, after, values[::-1]
+    if name == "send" and number == book.DONE:
+        place, stamp, *slot = values
+        values = stamp, place, *slot
+    return number, after, values
+
+
+def needs(name, numbers):
+    """The bytes that value buffers must have: an event that is not kept asks for no slot."""
+    return NEEDS[name][:-1] if name in EVENTS and numbers[-1] == 0 else NEEDS[name]
 
 
 def encode(value, after):
@@ -131,17 +148,16 @@ def encode(value, after):
 def expected(name, arguments):
     """The number, and the memory of every lent buffer afterwards."""
     number, after, values = answer_of(name, arguments)
-    lent = parted(arguments)[1]
+    numbers, lent = parted(arguments)
     outs = lent[len(lent) - len(NEEDS[name]):]
-    short = any(out.length < need for out, need in zip(outs, NEEDS[name]))
+    short = any(out.length < need for out, need in zip(outs, needs(name, numbers)))
     if number in (book.DONE, book.OUT_OF_REACH) and short:
-        number = book.NO_ROOM
+        return book.NO_ROOM, [buffer.memory for buffer in lent]
     memories = {id(buffer): buffer.memory for buffer in lent}
-    if number == book.DONE:
-        if after is not None:
-            memories[id(lent[0])] = lent[0].with_content(after)
-        for out, value in zip(outs, values):
-            memories[id(out)] = out.with_content(encode(value, after))
+    if after is not None:
+        memories[id(lent[0])] = lent[0].with_content(after)
+    for out, value in zip(outs, values):
+        memories[id(out)] = out.with_content(encode(value, after))
     return number, [memories[id(buffer)] for buffer in lent]
 
 
@@ -229,6 +245,27 @@ def edge_of_reach(rng, setup):
     return rng.choice((-setup.m - 1, -setup.m, 1 - setup.m, setup.n - 1, setup.n))
 
 
+def shelf_with(rng, content, desk, free):
+    """The book, still sound, with so many slots free; what is added is the desk's own row."""
+    made = bytearray(content)
+    kept = book.SHELF_MARK + bytes((desk + 1, 0)) + book.row_at(content, book.seat_at(desk))
+    left = rng.sample(range(32), free)
+    for slot in range(32):
+        at = book.slot_at(slot)
+        if slot in left or not book.slot_used(content, slot):
+            made[at:at + 20] = book.SHELF_MARK + book.FREE if slot in left else kept
+    return bytes(made)
+
+
+def answered(rng, name, number):
+    """A sound book and an event's numbers but the last, to which it answers so if it is not kept."""
+    while True:
+        content = sound_book(rng)
+        numbers = aimed(rng, name, content)
+        if getattr(book, name)(content, *numbers, 0)[0] == number:
+            return content, numbers
+
+
 def slots_apart(rng, content, first, second):
     """The book, still sound, with a used slot at an edge of another's reach, if the shelf may lag so far."""
     setup, made = book.setup_of(content), bytearray(content)
@@ -273,15 +310,23 @@ def some_number(rng, content):
 def some_numbers(rng, name, content):
     if name == "start":
         return list(any_setup(rng))
-    return [some_number(rng, content) for _ in range(BOOK_CALLS[name][0])]
+    wish = some_wish(rng, name)
+    return [some_number(rng, content) for _ in range(BOOK_CALLS[name][0] - len(wish))] + wish
+
+
+def some_wish(rng, name):
+    """The last number of an event; no other call has one."""
+    return [rng.choice((0, rng.choice(WISHES)))] if name in EVENTS else []
 
 
 def value_buffers(rng, name):
+    return [value_buffer(rng, need) for need in NEEDS[name]]
+
+
+def value_buffer(rng, need):
     """Room enough mostly, more than enough often, too little sometimes."""
-    short = rng.random() < 0.1
-    return [Lent(rng, rng.randbytes(rng.randrange(need) if short
-                                    else need + rng.choice((0, 0, 1, 9))))
-            for need in NEEDS[name]]
+    length = need + rng.choice((0, 0, 1, 9)) if rng.random() < 0.92 else rng.randrange(need)
+    return Lent(rng, rng.randbytes(length))
 
 
 def fitting(rng, name, given):
@@ -308,6 +353,7 @@ def trials(rng):
         yield from odd_setup_trials(rng)
         yield from short_ring_trials(rng)
         yield from length_trials(rng)
+        yield from shelf_trials(rng)
         yield from offset_trials(rng)
         yield from round_trials(rng)
         yield from label_trials(rng)
@@ -319,9 +365,10 @@ def trials(rng):
 def odd_number_trials(rng):
     for name, (count, _) in BOOK_CALLS.items():
         if name != "start":
-            content = sound_book(rng)
-            for numbers in itertools.product(odd_numbers(content[2]), repeat=count):
-                yield name, [Lent(rng, content), *numbers, *value_buffers(rng, name)]
+            content, others = sound_book(rng), count - (name in EVENTS)
+            for numbers in itertools.product(odd_numbers(content[2]), repeat=others):
+                yield name, [Lent(rng, content), *numbers, *some_wish(rng, name),
+                             *value_buffers(rng, name)]
 
 
 def odd_setup_trials(rng):
@@ -355,6 +402,18 @@ def length_trials(rng):
             yield fitting(rng, name, Lent(rng, content))
 
 
+def shelf_trials(rng):
+    """Each event by each wish, with no slot free and with one, and slot buffers about their length."""
+    for name, number in UNKEPT:
+        for free in (0, 1):
+            content, numbers = answered(rng, name, number)
+            content = shelf_with(rng, content, numbers[0], free)
+            for wish, room in itertools.product(WISHES, (0, 1, 2)):
+                lengths = (*NEEDS[name][:-1], room)
+                yield name, [Lent(rng, content), *numbers, wish,
+                             *(Lent(rng, rng.randbytes(length)) for length in lengths)]
+
+
 def offset_trials(rng):
     for offset in range(book.BOOK_BYTES):
         content = damaged_byte(rng, sound_book(rng), offset)
@@ -381,7 +440,8 @@ def sound_trials(rng):
     for _ in range(4):
         yield fitting(rng, sound_call(rng), given)
     for name in ("receive", "before", "compare", "reset"):
-        yield name, [given, *aimed(rng, name, given.content()), *value_buffers(rng, name)]
+        yield name, [given, *aimed(rng, name, given.content()), *some_wish(rng, name),
+                     *value_buffers(rng, name)]
     for name in ("before", "compare"):
         first, second = aimed(rng, name, given.content())
         if book.slot_used(given.content(), first):
@@ -391,9 +451,11 @@ def sound_trials(rng):
 
 
 def aimed(rng, name, content):
-    """Numbers that pass the first refusals, where the book has such."""
-    if name == "reset":
+    """Numbers that pass the first refusals, where the book has such; without an event's wish."""
+    if name in ("local", "reset"):
         return [rng.randrange(content[2])]
+    if name == "send":
+        return rng.sample(range(content[2]), 2)
     if name == "receive":
         used = [p for p in range(32) if book.place_used(content, p)] or [0]
         place = rng.choice(used)

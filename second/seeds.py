@@ -13,7 +13,7 @@ import sys
 sys.path.insert(0, os.path.dirname(os.path.dirname(os.path.abspath(__file__))))
 
 from second import line
-from second.listing import parse
+from second.listing import EVENTS, VERBS, parse
 
 # Each at some edge of the ranges or of the four inequalities.
 EDGE_SETUPS = (
@@ -29,8 +29,11 @@ EDGE_SETUPS = (
 ODD_NUMBERS = (0, 1, 2, 3, 7, 8, 9, 30, 31, 32, 33, 99, 127, 128, 200, 254,
                255, 256, 257, 511, 512, 998, 999)
 
-WORDS = (b"start", b"local", b"send", b"receive", b"reset", b"keep", b"drop",
-         b"discard", b"before", b"compare", b"show", b"write", b"newest",
+# As the last number of an event these say neither to keep its stamp nor not to.
+ODD_WISHES = (2, 3, 10, 11, 100, 101, 255, 256, 257, 999)
+
+WORDS = (b"start", b"local", b"send", b"receive", b"reset", b"drop",
+         b"discard", b"before", b"compare", b"keep", b"show", b"write", b"newest",
          b"Local", b"SEND", b"stars", b"loca", b"locals", b"")
 
 ODD_BYTES = b"\0\t\r\v\f \x1f\x7f\x80\xa0\xb2\xc2\xff.,-+_0129azAZ/:"
@@ -115,6 +118,10 @@ def other_count(rng, text):
     return b" ".join(fields + [b"000"] * rng.randint(1, 8))
 
 
+def other_last(rng, text):
+    return b" ".join(text.split(b" ")[:-1] + [b"%03d" % rng.choice(ODD_WISHES)])
+
+
 def other_word(rng, text):
     return b" ".join([rng.choice(WORDS)] + text.split(b" ")[1:])
 
@@ -126,7 +133,7 @@ def random_bytes(rng, text):
 
 DAMAGES = (
     long_line, other_byte, more_byte, less_byte, other_width, other_count,
-    other_word, random_bytes,
+    other_last, other_last, other_word, random_bytes,
     lambda rng, text: b"",
     lambda rng, text: text.upper(),
     lambda rng, text: text.capitalize(),
@@ -175,6 +182,10 @@ class Writer:
             return self.rng.choice(ODD_NUMBERS)
         return self.rng.randrange(self.run.D)
 
+    def wish(self):
+        """To keep the stamp or not."""
+        return int(self.rng.random() < 0.3)
+
     def used(self, room):
         places = [place for place, held in enumerate(room) if held]
         if not places or self.rng.random() < 0.05:
@@ -200,46 +211,57 @@ class Writer:
 
     def move(self):
         verb = self.rng.choice((
-            "local", "send", "send", "send", "receive", "receive", "receive",
-            "reset", "reset", "keep", "keep", "drop", "discard", "before",
-            "compare", "compare"))
-        if verb == "receive":
-            self.take()
-        elif verb == "send":
-            self.say(verb, self.desk(), self.desk())
+            "local", "local", "send", "send", "send", "receive", "receive", "receive",
+            "reset", "reset", "reset", "drop", "discard", "before", "compare", "compare"))
+        if verb in EVENTS:
+            self.event(verb, self.wish())
         elif verb in ("before", "compare"):
             self.say(verb, *self.two_slots())
-        elif verb == "drop":
-            self.say(verb, self.slot())
-        elif verb == "discard":
-            self.say(verb, self.place())
         else:
-            self.say(verb, self.desk())
+            self.say(verb, self.slot() if verb == "drop" else self.place())
 
-    def take(self):
-        """Receive some mail, mostly at the desk it is addressed to."""
+    def event(self, verb, keep):
+        """One of the four, with numbers that mostly make sense; its answer number."""
+        if verb == "receive":
+            return self.say(verb, *self.mail_taken(), keep)[0]
+        if verb == "send":
+            return self.say(verb, self.desk(), self.desk(), keep)[0]
+        return self.say(verb, self.desk(), keep)[0]
+
+    def mail_taken(self):
+        """Some mail, mostly with the desk it is addressed to."""
         place = self.place()
-        desk = self.desk()
         if place < 32 and self.run.mail[place] and self.rng.random() < 0.9:
-            desk = self.run.mail[place][1]
-        self.say("receive", desk, place)
+            return self.run.mail[place][1], place
+        return self.desk(), place
 
-    def tell(self, desk, to):
-        """Send and receive; a full phase or full mail is made room in."""
-        number, values = self.say("send", desk, to)
+    def tell(self, desk, to, keep=0):
+        """Send and receive; a full phase, mail or shelf is made room in."""
+        number, values = self.say("send", desk, to, keep)
         if number == 8:
-            self.say("reset", desk)
-            number, values = self.say("send", desk, to)
+            self.say("reset", desk, keep)
+            number, values = self.say("send", desk, to, 0)
         if number == 9:
             self.say("discard", self.rng.randrange(32))
-        if number == 0 and self.say("receive", to, values[0])[0] == 8:
-            self.say("reset", to)
-            self.say("receive", to, values[0])
+        if number == 10:
+            number, values = self.say("send", desk, to, 0)
+        if number == 0:
+            self.take(to, values[0], keep)
 
-    def turn(self, desk):
+    def take(self, desk, place, keep):
+        """Receive; what a full phase or a full shelf refuses still waits."""
+        number, _ = self.say("receive", desk, place, keep)
+        if number == 8:
+            self.say("reset", desk, 0)
+        if number in (8, 10):
+            self.say("receive", desk, place, 0)
+
+    def turn(self, desk, keep=0):
         """Reset a desk, and clear away what stands in its way."""
-        number, _ = self.say("reset", desk)
-        if number == 11:
+        number, _ = self.say("reset", desk, keep)
+        if number == 10:
+            self.make_room()
+        elif number == 11:
             rows = [self.run.behind(desk, self.run.pairs(k)) for k in range(self.run.D)]
             self.tell(desk, rows.index(max(rows)))
         elif number == 12:
@@ -248,6 +270,9 @@ class Writer:
         elif number == 13:
             self.clear("drop", self.run.shelf, desk, self.run.A)
         return number
+
+    def make_room(self):
+        self.say("drop", self.rng.randrange(32))
 
     def clear(self, verb, room, desk, limit):
         for place, event in list(enumerate(room)):
@@ -260,22 +285,20 @@ class Writer:
         for _ in range(self.rng.choice((5, 10, 20, 3 * self.run.P))):
             if len(self.lines) > 260:
                 return
-            self.turn(desk)
+            self.turn(desk, self.wish())
             self.now_and_then()
 
     def gossip(self):
         """News goes round the desks, then every desk turns."""
         for desk in list(range(self.run.D)) * self.rng.randint(1, 2):
-            self.tell(desk, (desk + 1) % self.run.D)
+            self.tell(desk, (desk + 1) % self.run.D, int(self.rng.random() < 0.1))
         for desk in range(self.run.D):
-            self.turn(desk)
+            self.turn(desk, self.wish())
             self.now_and_then()
 
     def now_and_then(self):
         if self.rng.random() < 0.15:
-            self.say("send", self.desk(), self.desk())
-        if self.rng.random() < 0.3:
-            self.say("keep", self.desk())
+            self.event("send", self.wish())
         if self.rng.random() < 0.2:
             self.say("compare", *self.two_slots())
         if self.rng.random() < 0.2:
@@ -288,48 +311,69 @@ class Writer:
 
     def fill_mail(self):
         for _ in range(self.rng.randint(33, 60)):
-            number, _ = self.say("send", self.desk(), self.desk())
+            number = self.event("send", self.wish())
             if number == 8 and self.rng.random() < 0.5:
                 self.turn(self.rng.randrange(self.run.D))
             if number == 9 and self.rng.random() < 0.5:
                 return self.fill_phase()
 
     def fill_phase(self):
-        """Mail and phase full at once, where L lets it come to that."""
+        """A phase full beside full mail or a full shelf, where L lets it come to that."""
         desk = self.rng.randrange(self.run.D)
         while not self.run.full(desk) and self.rng.random() < 0.95:
-            self.say("local", desk)
-        self.say("send", desk, (desk + 1) % self.run.D)
+            self.say("local", desk, 0)
+        self.say("send", desk, (desk + 1) % self.run.D, self.wish())
+        self.say("local", desk, 1)
 
     def fill_shelf(self):
-        busy = self.desk()
-        for _ in range(self.rng.randint(33, 45)):
-            number, _ = self.say("keep", busy)
-            if number == 10:
-                break
-            if number or self.rng.random() < 0.3:
-                busy = self.desk()
-                self.say("local", busy)
-        for desk in range(self.run.D):
-            self.say("keep", desk)
+        """Kept events until none finds a slot, then all kinds of them about the last slot."""
+        if self.run.D * self.run.L < 40:
+            self.roomy_start()
+        for _ in range(80):
+            if None in self.run.shelf:
+                self.more_kept()
+        for _ in range(self.rng.randint(2, 4)):
+            self.about_the_last_slot()
+        self.fill_phase()
+
+    def fill_both(self):
+        """Kept sends until neither a place nor a slot is free."""
+        self.roomy_start()
+        for _ in range(40):
+            desk, to = self.rng.sample(range(self.run.D), 2)
+            if self.say("send", desk, to, 1)[0] == 8:
+                self.turn(desk)
+        self.about_the_last_slot()
+        self.fill_phase()
+
+    def roomy_start(self):
+        """An event is kept but once, so a shelf is filled only by many."""
+        D, P, L, *lags = good_setup(self.rng)
+        self.say("start", D, P, max(L, 24), *lags)
+
+    def more_kept(self):
+        verb = self.rng.choice(("local", "local", "local", "send", "receive", "reset"))
+        if self.event(verb, 1) in (8, 11, 12, 13):
+            self.turn(self.rng.randrange(self.run.D), 1)
+
+    def about_the_last_slot(self):
+        """Each of the four, kept and not, where a slot may have been freed or may not."""
+        if self.rng.random() < 0.5:
+            self.say("drop", self.slot())
+        events = [(verb, keep) for verb in EVENTS for keep in (0, 1)]
+        for verb, keep in self.rng.sample(events, len(events)):
+            self.event(verb, keep)
 
     def resets(self):
         """Two desks turn, and what they do is kept: resets mostly, and what follows them."""
         desks = self.rng.sample(range(self.run.D), 2)
         for _ in range(self.rng.randint(3, 9)):
             desk = self.rng.choice(desks)
-            if self.turn(desk) != 0:
-                self.turn(desk)
-            self.shelve(desk)
+            if self.turn(desk, 1) != 0:
+                self.turn(desk, 1)
             if self.rng.random() < 0.4:
-                self.say("local", desk)
-                self.shelve(desk)
+                self.say("local", desk, 1)
         self.ask_at_the_edges()
-
-    def shelve(self, desk):
-        """Keep; a full shelf is made room on."""
-        if self.say("keep", desk)[0] == 10:
-            self.say("drop", self.rng.randrange(32))
 
     def ask_at_the_edges(self):
         """Slots whose difference is at an end of the reach, or just beyond it."""
@@ -349,12 +393,12 @@ class Writer:
     def odd_numbers(self):
         odd = lambda: self.rng.choice(ODD_NUMBERS)
         for _ in range(self.rng.randint(2, 8)):
-            verb = self.rng.choice(("local", "reset", "keep", "drop", "discard",
-                                    "send", "receive", "before", "compare"))
-            pair = verb in ("send", "receive", "before", "compare")
-            numbers = (odd(), odd()) if pair else (odd(),)
-            self.say(verb, *(numbers[:1] * len(numbers) if self.rng.random() < 0.2
-                             else numbers))
+            verb = self.rng.choice([verb.decode() for verb in VERBS if verb != b"start"])
+            wish = [self.wish()] if verb in EVENTS else []
+            numbers = [odd() for _ in range(VERBS[verb.encode()] - len(wish))]
+            if self.rng.random() < 0.2:
+                numbers = numbers[:1] * len(numbers)
+            self.say(verb, *numbers, *wish)
 
     def bad_lines(self):
         for _ in range(self.rng.randint(3, 12)):
@@ -378,7 +422,7 @@ class Writer:
 
 
 SCENES = ((Writer.wander, 8), (Writer.sprint, 4), (Writer.rounds, 5),
-          (Writer.fill_mail, 2), (Writer.fill_shelf, 1), (Writer.ask, 3),
+          (Writer.fill_mail, 2), (Writer.fill_shelf, 2), (Writer.fill_both, 1), (Writer.ask, 3),
           (Writer.resets, 5), (Writer.odd_numbers, 2), (Writer.bad_lines, 9),
           (Writer.bad_start, 3), (Writer.new_start, 1))
 
@@ -386,12 +430,12 @@ SCENES = ((Writer.wander, 8), (Writer.sprint, 4), (Writer.rounds, 5),
 SHORT_LISTINGS = (
     b"", b"\n", b"\n\n", b"x", b"\0", b"\r\n", b"\n" * 70000,
     b"start 002 003 003 001 001 001 001", b"start 002 003 003 001 001 001 001\r\n",
-    b"start 256 003 003 001 001 001 001\nlocal 000\n",
+    b"start 256 003 003 001 001 001 001\nlocal 000 000\n",
     *(b"x" * length for length in (63, 64, 65, 66)),
-    *(b"start 003 005 004 002 004 002 002\n" + b" " * length + b"local 000\nlocal 000"
-      for length in (54, 55, 56, 57, 119, 120, 247, 256, 65527, 65536)),
-    *(b"start 003 005 004 002 004 002 002\nlocal 000" + b"x" * length + b"\nlocal 000"
-      for length in (55, 56, 247, 256, 65527, 65536)),
+    *(b"start 003 005 004 002 004 002 002\n" + b" " * length + b"local 000 001\nlocal 000 001"
+      for length in (50, 51, 52, 53, 115, 116, 243, 256, 65523, 65536)),
+    *(b"start 003 005 004 002 004 002 002\nlocal 000 001" + b"x" * length + b"\nlocal 000 001"
+      for length in (51, 52, 243, 256, 65523, 65536)),
 )
 
 

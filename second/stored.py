@@ -4,10 +4,10 @@
     python3 second/stored.py stdout > crates/desks/stdout
 
 No line can give 014 (BadStamp) or 015 (NoRoom): no line makes a call that
-reads a record or writes one. "crossed" is reached by no line either: kept
-stamps in a book brought along from start never cross. Case 4 and case 10 are
-about records, so lines say only the stamp of case 4 and, of case 10, the same
-differences on the book.
+reads a record or writes one; and no call at all gives 007 (NoEvent). "crossed"
+is reached by no line either: kept stamps in a book brought along from start
+never cross. Case 4 and case 10 are about records, so lines say only the stamp
+of case 4 and, of case 10, the same differences on the book.
 """
 
 import itertools
@@ -20,23 +20,19 @@ from second import book, listing, seeds
 
 EXAMPLE = b"""\
 start 002 003 003 001 001 001 001
-local 000
-keep 000
-send 000 001
-receive 001 000
-keep 001
+local 000 001
+send 000 001 000
+receive 001 000 001
 compare 000 001
-reset 000
-reset 000
+reset 000 000
+reset 000 000
 """
 
 EXAMPLE_ANSWERS = b"""\
 000
-000 000 000.001 000.000
-000 000
+000 000 000.001 000.000 000
 000 000 000 000.002 000.000
-000 001 000.002 000.001
-000 001
+000 001 000.002 000.001 001
 000 before
 000 000 001.000 000.000
 011
@@ -44,9 +40,17 @@ EXAMPLE_ANSWERS = b"""\
 
 X = (3, 5, 4, 2, 4, 2, 2)
 
-NO_LINE_GIVES = (book.BAD_STAMP, book.NO_ROOM)
+NO_LINE_GIVES = (book.NO_EVENT, book.BAD_STAMP, book.NO_ROOM)
 
 RELATIONS = ("before", "after", "same", "concurrent")
+
+# Of each event on a full shelf: its number kept, and what it would be not kept.
+FULL_SHELF_BESIDE = {
+    "local": ((3, 3), (8, 8), (10, 0)),
+    "send": ((3, 3), (4, 4), (8, 8), (9, 9), (10, 0)),
+    "receive": ((3, 3), (5, 5), (6, 6), (8, 8), (10, 0)),
+    "reset": ((3, 3), (10, 0), (10, 11), (10, 12), (10, 13)),
+}
 
 
 class Writer(seeds.Writer):
@@ -58,9 +62,26 @@ class Writer(seeds.Writer):
     def raw(self, *texts):
         self.lines += texts
 
-    def kept(self, desk):
-        """The slot that a keep answers."""
-        return self.say("keep", desk)[1][0]
+    def kept(self, verb, *numbers):
+        """The slot that a kept event answers."""
+        return self.say(verb, *numbers, 1)[1][-1]
+
+    def either(self, verb, *numbers):
+        """An event kept, then the same not kept."""
+        self.say(verb, *numbers, 1)
+        self.say(verb, *numbers, 0)
+
+    def kept_turn(self, desk):
+        """Reset and keep, with a second try where something stood in the way."""
+        if self.turn(desk, 1) != 0:
+            self.turn(desk, 1)
+
+    def make_room(self):
+        self.say("drop", 0)
+
+    def waiting(self, desk):
+        """The lowest place with mail for a desk."""
+        return next(place for place, mail in enumerate(self.run.mail) if mail and mail[1] == desk)
 
     def question(self, first, second):
         self.say("before", first, second)
@@ -81,14 +102,19 @@ class Writer(seeds.Writer):
 
 # Before any start
 
+def numbers_of(verb, number, keep):
+    """All numbers of a verb alike, but for an event's wish to keep."""
+    count = listing.VERBS[verb.encode()]
+    return [number] * (count - 1) + [keep] if verb in listing.EVENTS else [number] * count
+
+
 def no_book_yet(w):
-    for verb, count in listing.VERBS.items():
-        if verb != b"start":
-            w.say(verb.decode(), *[0] * count)
-            w.say(verb.decode(), *[999] * count)
-    w.raw(b"", b"local 7")
+    for verb in (verb.decode() for verb in listing.VERBS if verb != b"start"):
+        w.say(verb, *numbers_of(verb, 0, 0))
+        w.say(verb, *numbers_of(verb, 999, 1))
+    w.raw(b"", b"local 7", b"local 000", b"local 000 002", b"keep 000")
     w.say("start", 3, 4, 4, 2, 4, 2, 2)
-    w.say("local", 0)
+    w.say("local", 0, 1)
 
 
 def example(w):
@@ -101,34 +127,33 @@ def example(w):
 
 def case_1_and_2(w):
     w.say("start", *X)
-    w.say("local", 2)
+    w.say("local", 2, 0)
     w.say("start", 3, 4, 4, 2, 4, 2, 2)
     w.say("start", 3, 5, 4, 2, 1, 2, 2)
-    w.say("local", 2)
+    w.say("local", 2, 0)
 
 
 def case_3_to_8(w):
     w.say("start", *X)
-    w.say("local", 0)
-    w.say("keep", 2)
-    w.say("send", 0, 0)
-    w.say("send", 3, 3)
+    w.say("local", 0, 0)
+    w.say("send", 0, 0, 0)
+    w.say("send", 3, 3, 0)
     for _ in range(3):
-        w.say("local", 0)
+        w.say("local", 0, 0)
     w.say("start", *X)
     for _ in range(3):
-        w.say("reset", 0)
+        w.say("reset", 0, 0)
 
 
 def turn_to(w, phase):
     """Desk 0 turns to a true phase; desks 1 and 2 follow each turn."""
     while w.run.own(0)[0] < phase:
-        w.say("reset", 0)
+        w.say("reset", 0, 0)
         w.tell(0, 1)
         w.tell(0, 2)
         for desk in (1, 2):
             if w.run.full(desk):
-                w.say("reset", desk)
+                w.say("reset", desk, 0)
                 w.tell(desk, 3 - desk)
                 w.tell(desk, 0)
 
@@ -137,61 +162,51 @@ def case_9(w):
     """Phase 0 is later than 4 once desk 0 is there, not before."""
     w.say("start", 3, 5, 40, 2, 4, 2, 2)
     turn_to(w, 4)
-    w.say("send", 0, 1)
-    w.say("reset", 0)
-    w.say("send", 0, 2)
-    w.say("receive", 2, 1)
-    w.say("send", 2, 1)
-    w.say("receive", 1, 1)
-    w.say("receive", 1, 0)
-    w.say("keep", 1)
+    w.say("send", 0, 1, 0)
+    w.say("reset", 0, 0)
+    w.say("send", 0, 2, 0)
+    w.say("receive", 2, 1, 0)
+    w.say("send", 2, 1, 0)
+    w.say("receive", 1, 1, 0)
+    w.say("receive", 1, 0, 1)
     w.say("start", *X)
-    w.say("send", 0, 1)
-    w.say("reset", 0)
-    w.say("send", 0, 1)
-    w.say("receive", 1, 1)
-    w.say("receive", 1, 0)
+    w.say("send", 0, 1, 0)
+    w.say("reset", 0, 0)
+    w.say("send", 0, 1, 0)
+    w.say("receive", 1, 1, 0)
+    w.say("receive", 1, 0, 0)
 
 
 def case_10(w):
     """On the book under X, differences of 0, 1, -1 and 2, -2; the last ones from a reset and its local."""
     w.say("start", *X)
-    w.say("local", 0)
-    w.say("keep", 0)
-    w.say("local", 1)
-    w.say("keep", 1)
-    w.say("reset", 0)
-    w.say("send", 0, 1)
-    w.say("keep", 0)
-    w.say("receive", 1, 0)
-    w.say("keep", 1)
-    w.say("reset", 0)
-    w.say("keep", 0)
-    w.say("local", 0)
-    w.say("keep", 0)
+    w.say("local", 0, 1)
+    w.say("local", 1, 1)
+    w.say("reset", 0, 0)
+    w.say("send", 0, 1, 1)
+    w.say("receive", 1, 0, 1)
+    w.say("reset", 0, 1)
+    w.say("local", 0, 1)
     w.all_two_ways(range(6))
 
 
 def case_11_and_12(w):
     w.say("start", *X)
-    w.say("local", 0)
-    w.say("keep", 0)
-    w.say("keep", 0)
-    w.all_two_ways((0, 1))
-    w.say("send", 0, 1)
-    w.say("receive", 2, 0)
-    w.say("receive", 1, 0)
-    w.say("receive", 1, 0)
+    w.say("local", 0, 1)
+    w.question(0, 0)
+    w.say("send", 0, 1, 0)
+    w.say("receive", 2, 0, 0)
+    w.say("receive", 1, 0, 0)
+    w.say("receive", 1, 0, 0)
 
 
 def case_13(w):
-    for resets in (1, 2):
+    for between in (0, 1):
         w.say("start", *X)
-        w.say("local", 0)
-        w.say("keep", 0)
-        for _ in range(resets):
-            w.say("reset", 0)
-        w.say("keep", 0)
+        w.say("local", 0, 1)
+        for _ in range(between):
+            w.say("reset", 0, 0)
+        w.say("reset", 0, 1)
         w.all_two_ways((0, 1))
 
 
@@ -212,65 +227,99 @@ def setups(w):
                   (4, 3, 9, 1, 1, 1, 2), (4, 3, 9, 1, 1, 2, 2),
                   (4, 254, 9, 1, 1, 127, 127), (4, 253, 9, 1, 1, 127, 127)):
         w.say("start", *setup)
-        w.say("local", 3)
+        w.say("local", 3, 0)
 
 
 # Numbers that are not there, and reasons that meet
 
 def odd_numbers(w):
     w.say("start", *X)
-    w.say("send", 0, 1)
-    w.say("keep", 0)
+    w.say("send", 0, 1, 1)
     for odd in (1, 2, 3, 8, 31, 32, 255, 256, 257, 999):
-        for verb in ("local", "reset", "keep", "drop", "discard"):
+        for verb in ("local", "reset"):
+            w.either(verb, odd)
+        for verb in ("drop", "discard"):
             w.say(verb, odd)
-        for verb in ("send", "receive", "before", "compare"):
-            w.say(verb, 0, odd)
-            w.say(verb, odd, 0)
-            w.say(verb, odd, odd)
+        for numbers in ((0, odd), (odd, 0), (odd, odd)):
+            w.either("send", *numbers)
+            w.either("receive", *numbers)
+            w.question(*numbers)
 
 
 def reasons_that_meet(w):
-    """The smallest number is given."""
+    """The smallest number is given: mail, shelf and desk 0's phase are full at once."""
     w.say("start", 3, 3, 33, 1, 2, 1, 1)
     for _ in range(32):
-        w.say("send", 0, 2)
-    for _ in range(32):
-        w.say("keep", 0)
-    for call in (("send", 0, 3), ("send", 0, 0), ("send", 0, 1), ("send", 1, 0),
-                 ("receive", 3, 32), ("receive", 0, 32), ("receive", 0, 0),
-                 ("local", 0), ("keep", 3), ("keep", 1), ("keep", 0)):
-        w.say(*call)
-    w.say("discard", 0)
+        w.say("send", 0, 2, 1)
+    for event in (("send", 0, 3), ("send", 0, 0), ("send", 0, 1), ("send", 1, 0),
+                  ("receive", 3, 32), ("receive", 2, 32), ("receive", 0, 0),
+                  ("local", 3), ("local", 0), ("reset", 3)):
+        w.either(*event)
+    w.either("receive", 2, 0)
+    w.either("receive", 2, 0)
+    w.either("send", 1, 0)
+    for _ in range(31):
+        w.say("local", 2, 0)
+    w.either("receive", 2, 1)
+
+
+def lags_that_meet(w):
+    """At a kept reset a full shelf comes before what lags: a seat, then the mail, then the shelf."""
+    w.say("start", 3, 3, 60, 1, 2, 1, 1)
+    w.say("send", 0, 2, 1)
+    for _ in range(31):
+        w.say("local", 0, 1)
     for _ in range(2):
-        w.say("reset", 0)
-        w.say("reset", 0)
-        w.tell(0, 1)
-        w.tell(0, 2)
-    w.say("reset", 0)
-    for place in range(1, 32):
-        w.say("discard", place)
-    w.say("reset", 0)
-    for slot in range(32):
-        w.say("drop", slot)
-    w.say("reset", 0)
+        w.either("reset", 0)
+        resets_refused(w)
+        follow(w)
+    resets_refused(w)
+    w.say("discard", 0)
+    resets_refused(w)
+    w.clear("drop", w.run.shelf, 0, w.run.A)
+    w.say("reset", 0, 1)
+
+
+def resets_refused(w):
+    """Kept and not kept on a full shelf, and kept with a slot free; the shelf is then full again."""
+    w.either("reset", 0)
+    w.say("drop", 31)
+    w.say("reset", 0, 1)
+    w.say("local", 1, 1)
 
 
 # Text
 
 def bad_shapes(w):
     w.say("start", *X)
-    w.say("local", 0)
+    w.say("local", 0, 1)
     for verb, count in listing.VERBS.items():
         good = seeds.text_of(verb.decode(), *[1] * count)
         w.raw(*shapes_of(good))
     w.raw(b"", b" ", b"  ", b"\t", b"\r", b"\0", b"\xff", b"000", b"000 local",
-          b"local:000", b"local 000 local 000", b"local000", b"show 000",
-          b"write 000", b"newest 000 000", b"LOCAL 000", b"Local 000",
-          b"local OOO", b"local 0.0", b"local -01", b"local +01", b"local 0x1",
-          b"local 1e1", b"local 00\xb9", b"loca\xecl 000", b"local\0000",
-          b"\xef\xbb\xbflocal 000", b"local 000#", b"local 0 00", b"# local")
-    w.say("local", 0)
+          b"local:000 000", b"local 000 000 local 000 000", b"local000 000", b"local 000000",
+          b"show 000", b"write 000", b"newest 000 000", b"LOCAL 000 000", b"Local 000 000",
+          b"local OOO 000", b"local 000 OOO", b"local 0.0 000", b"local -01 000",
+          b"local +01 000", b"local 000 +01", b"local 000 -01", b"local 0x1 000",
+          b"local 1e1 000", b"local 00\xb9 000", b"local 000 00\xb9", b"loca\xecl 000 000",
+          b"local\0000 000", b"\xef\xbb\xbflocal 000 000", b"local 000 000#",
+          b"local 0 00 000", b"# local", b"local 000 yes", b"local 000 no")
+    w.say("local", 0, 1)
+
+
+def odd_wishes(w):
+    """To keep is 001 and not to keep 000; any other last number is a BadLine, and so is none."""
+    w.say("start", *X)
+    w.say("send", 0, 1, 1)
+    for numbers in ("local 000", "send 000 002", "receive 001 000", "reset 000",
+                    "local 999", "send 003 003", "receive 001 031", "reset 003"):
+        for wish in (2, 3, 9, 10, 11, 20, 100, 101, 110, 111, 200, 254, 255, 256, 257, 512, 999):
+            w.raw(f"{numbers} {wish:03}".encode())
+        w.raw(*(f"{numbers}{wish}".encode() for wish in
+                ("", " ", " 0", " 1", " 01", " 0001", " 000 000", " 001 001", " 000 001")))
+    w.raw(b"keep 000", b"keep 000 000", b"keep 000 001", b"keep 001", b"keep 999", b"keep")
+    w.say("receive", 1, 0, 1)
+    w.question(0, 1)
 
 
 def shapes_of(good):
@@ -289,10 +338,10 @@ def shapes_of(good):
 def long_lines(w):
     w.say("start", *X)
     for length in (62, 63, 64, 65, 66, 127, 128, 129, 130, 200, 256, 265, 1000):
-        w.raw(b"local 000".ljust(length), b"local 000".rjust(length), b"x" * length,
-              b"local 000".ljust(length, b"\0"), b"\xff" * length)
-        w.say("reset", 0)
-        w.say("reset", 1)
+        w.raw(b"local 000 001".ljust(length), b"local 000 001".rjust(length), b"x" * length,
+              b"local 000 001".ljust(length, b"\0"), b"\xff" * length)
+        w.say("reset", 0, 0)
+        w.say("reset", 1, 0)
         w.tell(0, 1)
         w.tell(0, 2)
         w.tell(1, 0)
@@ -306,35 +355,62 @@ def long_lines(w):
 def full_mail(w):
     w.say("start", 3, 5, 255, 2, 4, 2, 2)
     for place in range(33):
-        w.say("send", place % 3, (place + 1) % 3)
+        w.say("send", place % 3, (place + 1) % 3, 0)
+    w.say("send", 0, 1, 1)
     w.say("discard", 31)
     w.say("discard", 5)
     w.say("discard", 5)
-    w.say("send", 0, 2)
-    w.say("receive", 2, 5)
-    w.say("receive", 2, 5)
-    w.say("receive", 1, 0)
-    w.say("receive", 0, 29)
+    w.say("send", 0, 2, 1)
+    w.say("receive", 2, 5, 1)
+    w.say("receive", 2, 5, 1)
+    w.say("receive", 1, 0, 0)
+    w.say("receive", 0, 29, 0)
     for _ in range(5):
-        w.say("send", 1, 0)
+        w.say("send", 1, 0, 0)
     for place in range(31, -1, -1):
         mail = w.run.mail[place]
-        w.say("receive", mail[1] if mail else 0, place)
+        w.say("receive", mail[1] if mail else 0, place, place % 2)
+    w.all_two_ways((0, 1, 2))
 
 
 def full_shelf(w):
     w.say("start", 3, 5, 255, 2, 4, 2, 2)
     for slot in range(33):
-        w.say("local", slot % 3)
-        w.say("keep", slot % 3)
+        w.say("local", slot % 3, 1)
     w.say("drop", 31)
     w.say("drop", 7)
     w.say("drop", 7)
     w.say("before", 7, 8)
     w.say("compare", 8, 7)
     for desk in range(3):
-        w.say("keep", desk)
+        w.say("local", desk, 1)
     w.all_two_ways((0, 3, 7, 30, 31))
+
+
+def last_slot(w):
+    """Each event about the last slot; the one that is freed is used again, wherever it is."""
+    w.say("start", 3, 11, 255, 5, 9, 3, 3)
+    for _ in range(31):
+        w.say("local", 0, 1)
+    for _ in range(5):
+        w.say("send", 1, 2, 0)
+    about_the_last_slot(w, lambda: ("local", 1), 0)
+    about_the_last_slot(w, lambda: ("send", 1, 2), 17)
+    about_the_last_slot(w, lambda: ("receive", 2, w.waiting(2)), 31)
+    about_the_last_slot(w, lambda: ("reset", 1), 5)
+    w.say("drop", 20)
+    for _ in range(3):
+        w.say("receive", 2, w.waiting(2), 1)
+    w.say("drop", 0)
+    w.say("receive", 2, w.waiting(2), 1)
+    w.all_two_ways((0, 5, 17, 20, 31))
+
+
+def about_the_last_slot(w, event, freed):
+    """Not kept and kept with one slot free, kept and not kept with none; then one is freed."""
+    for keep in (0, 1, 1, 0):
+        w.say(*event(), keep)
+    w.say("drop", freed)
 
 
 # What stands in the way of a reset
@@ -348,46 +424,45 @@ def follow(w):
 def mail_behind(w):
     """An old mail must not come back as new."""
     w.say("start", 3, 3, 60, 1, 2, 1, 2)
-    w.say("send", 0, 2)
+    w.say("send", 0, 2, 0)
     for _ in range(3):
-        w.say("reset", 0)
+        w.say("reset", 0, 0)
         follow(w)
-    w.say("receive", 2, 0)
-    w.say("reset", 0)
+    w.say("receive", 2, 0, 0)
+    w.say("reset", 0, 0)
     follow(w)
-    w.say("send", 1, 2)
+    w.say("send", 1, 2, 0)
     for _ in range(3):
-        w.say("reset", 0)
+        w.say("reset", 0, 1)
         follow(w)
     w.say("discard", 0)
-    w.say("reset", 0)
+    w.say("reset", 0, 1)
 
 
 def shelf_behind(w):
+    """A kept reset is asked about the stamps that were kept before it, not about its own."""
     for A in (1, 2):
         w.say("start", 3, 3, 60, 1, A, 1, 2)
-        w.say("local", 1)
-        w.say("keep", 1)
+        w.say("local", 1, 1)
         for _ in range(3):
-            w.say("reset", 0)
+            w.say("reset", 0, 0)
             follow(w)
         w.say("drop", 0)
-        w.say("reset", 0)
+        w.say("reset", 0, 1)
         follow(w)
-        w.say("keep", 0)
-        for _ in range(3):
-            w.say("reset", 0)
+        for keep in (0, 1, 0):
+            w.say("reset", 0, keep)
             follow(w)
 
 
 def seats_not_started_count(w):
     w.say("start", 8, 3, 9, 1, 2, 1, 1)
-    w.say("reset", 0)
+    w.say("reset", 0, 0)
     for desk in range(1, 7):
         w.tell(0, desk)
-        w.say("reset", 0)
+        w.say("reset", 0, 0)
     w.tell(0, 7)
-    w.say("reset", 0)
+    w.say("reset", 0, 1)
 
 
 # Rings
@@ -410,11 +485,25 @@ def ring_turn(w, D):
     lap(w)
     chosen = w.run.own(0)[0] % D
     for desk in range(D):
-        w.turn(desk)
         if desk == chosen:
-            w.say("keep", desk)
+            w.kept_turn(desk)
             w.say("compare", 0, 1)
             w.say("before", 1, 0)
+        else:
+            w.turn(desk)
+
+
+def kept_rings(w):
+    """Every event is kept where a slot is free, so the shelf is full again and again; four rings."""
+    w.say("start", 3, 3, 30, 1, 2, 2, 1)
+    while turned(w.run) < 4:
+        for desk in (0, 1, 2, 0, 1, 2):
+            w.tell(desk, (desk + 1) % 3, 1)
+        for desk in range(3):
+            w.kept_turn(desk)
+        kept = [slot for slot, event in enumerate(w.run.shelf) if event]
+        w.question(kept[0], kept[0])
+        w.two_ways(kept[:1], kept[-2:])
 
 
 def ring_of_255(w):
@@ -423,27 +512,24 @@ def ring_of_255(w):
     reach_of_127(w)
     w.tell(0, 1)
     for desk, turns in ((0, 2), (1, 130), (0, 130), (1, 130)):
-        for _ in range(turns):
+        for _ in range(turns - 1):
             w.turn(desk)
-        w.say("keep", desk)
+        w.kept_turn(desk)
         w.all_two_ways((0, 1))
-    w.say("keep", 0)
+    w.kept_turn(0)
     w.all_two_ways(range(4))
 
 
 def reach_of_127(w):
     """Differences of 126, 127 and 128, each way."""
-    w.say("local", 0)
-    w.say("keep", 0)
-    for _ in range(126):
-        w.say("reset", 0)
-    w.say("keep", 0)
-    w.say("reset", 0)
-    w.say("keep", 0)
-    w.tell(0, 1)
-    w.say("keep", 0)
-    w.say("reset", 0)
-    w.say("keep", 0)
+    w.say("local", 0, 1)
+    for _ in range(125):
+        w.say("reset", 0, 0)
+    w.say("reset", 0, 1)
+    w.say("reset", 0, 1)
+    w.say("send", 0, 1, 1)
+    w.say("receive", 1, 0, 0)
+    w.say("reset", 0, 1)
     w.all_two_ways(range(5))
     for slot in range(5):
         w.say("drop", slot)
@@ -451,28 +537,27 @@ def reach_of_127(w):
 
 def clock_of_255(w):
     w.say("start", 8, 255, 255, 127, 254, 127, 127)
-    for _ in range(254):
-        w.say("local", 7)
-    w.say("local", 7)
-    w.say("send", 7, 0)
-    w.say("keep", 7)
-    w.say("reset", 7)
-    w.say("send", 7, 0)
-    w.say("receive", 0, 0)
-    w.say("keep", 0)
+    for _ in range(253):
+        w.say("local", 7, 0)
+    w.say("local", 7, 1)
+    w.either("local", 7)
+    w.either("send", 7, 0)
+    w.say("reset", 7, 0)
+    w.say("send", 7, 0, 0)
+    w.say("receive", 0, 0, 1)
     w.say("compare", 0, 1)
 
 
 def clock_of_2(w):
     w.say("start", 2, 5, 2, 2, 4, 3, 2)
-    w.say("send", 0, 1)
-    w.say("local", 0)
-    w.say("local", 1)
-    w.say("receive", 1, 0)
-    w.say("reset", 1)
-    w.say("receive", 1, 0)
-    w.say("reset", 0)
-    w.say("reset", 0)
+    w.say("send", 0, 1, 0)
+    w.say("local", 0, 1)
+    w.say("local", 1, 1)
+    w.either("receive", 1, 0)
+    w.say("reset", 1, 0)
+    w.say("receive", 1, 0, 1)
+    w.say("reset", 0, 0)
+    w.say("reset", 0, 0)
 
 
 # Relations
@@ -481,15 +566,11 @@ def nought_after_four(w):
     """0.0 is the newest of all when the ring has come round."""
     w.say("start", 3, 5, 40, 2, 4, 2, 2)
     turn_to(w, 4)
-    w.say("keep", 0)
-    w.say("send", 0, 1)
-    w.say("reset", 0)
-    w.say("keep", 0)
-    w.say("receive", 1, 0)
-    w.say("keep", 1)
-    w.say("send", 0, 2)
-    w.say("receive", 2, 0)
-    w.say("keep", 2)
+    w.say("send", 0, 1, 1)
+    w.say("reset", 0, 1)
+    w.say("receive", 1, 0, 1)
+    w.say("send", 0, 2, 0)
+    w.say("receive", 2, 0, 1)
     w.all_two_ways(range(4))
 
 
@@ -497,19 +578,13 @@ def one_way_out_of_reach(w):
     """Out of reach one way is never "concurrent"."""
     for m, n in ((1, 4), (4, 1), (2, 3)):
         w.say("start", 3, 5, 20, 2, 4, m, n)
-        w.say("local", 0)
-        w.say("local", 1)
-        w.say("keep", 0)
-        w.say("keep", 1)
-        w.say("reset", 0)
-        w.say("keep", 0)
-        w.say("send", 0, 1)
-        w.say("receive", 1, 0)
-        w.say("keep", 1)
-        w.say("reset", 0)
-        w.say("keep", 0)
-        w.say("reset", 1)
-        w.say("keep", 1)
+        w.say("local", 0, 1)
+        w.say("local", 1, 1)
+        w.say("reset", 0, 1)
+        w.say("send", 0, 1, 0)
+        w.say("receive", 1, 0, 1)
+        w.say("reset", 0, 1)
+        w.say("reset", 1, 1)
         w.all_two_ways(range(6))
 
 
@@ -518,12 +593,9 @@ def reset_edge(w):
     for P, M, A, m, n in ((3, 1, 2, 1, 2), (4, 1, 3, 2, 2), (5, 2, 4, 3, 2)):
         w.say("start", 3, P, 60, M, A, m, n)
         turn_to(w, P - 1)
-        slots = [w.kept(0), w.kept(1)]
+        slots = [w.kept("local", 0), w.kept("local", 1)]
         for _ in range(m + 1):
-            w.say("reset", 0)
-            slots.append(w.kept(0))
-            w.say("local", 0)
-            slots.append(w.kept(0))
+            slots += [w.kept("reset", 0), w.kept("local", 0)]
             follow(w)
         w.two_ways(slots[-2:], slots[:-2])
 
@@ -533,26 +605,21 @@ def resets_apart(w):
     for m, n in ((1, 2), (2, 1)):
         w.say("start", 2, 7, 4, 3, 6, m, n)
         for _ in range(m + 1):
-            slots = []
-            for desk in (0, 1):
-                w.say("reset", desk)
-                slots.append(w.kept(desk))
-                w.say("local", desk)
-                slots.append(w.kept(desk))
+            slots = [w.kept(verb, desk) for desk in (0, 1) for verb in ("reset", "local")]
             w.two_ways(slots[:2], slots[2:])
 
 
 def unended(w):
     w.say("start", *X)
-    w.say("local", 2)
+    w.say("local", 2, 1)
 
 
 SECTIONS = (
     no_book_yet, example, case_1_and_2, case_3_to_8, case_9, case_10,
-    case_11_and_12, case_13, setups, odd_numbers, reasons_that_meet, bad_shapes,
-    long_lines, full_mail, full_shelf, mail_behind, shelf_behind,
-    seats_not_started_count, rings, ring_of_255, clock_of_255, clock_of_2,
-    nought_after_four, one_way_out_of_reach, reset_edge, resets_apart, unended,
+    case_11_and_12, case_13, setups, odd_numbers, reasons_that_meet, lags_that_meet,
+    bad_shapes, odd_wishes, long_lines, full_mail, full_shelf, last_slot, mail_behind,
+    shelf_behind, seats_not_started_count, rings, kept_rings, ring_of_255, clock_of_255,
+    clock_of_2, nought_after_four, one_way_out_of_reach, reset_edge, resets_apart, unended,
 )
 
 
@@ -590,6 +657,7 @@ def check(w, printed):
     require({0, 64, 65} <= lengths, "the lengths 0, 64 and 65")
     check_runs(w.runs)
     check_reach(w.runs)
+    check_shelf(w.lines)
 
 
 def check_runs(runs):
@@ -608,6 +676,30 @@ def check_reach(runs):
             for run in runs for e in run.shelf for f in run.shelf if e and f}
     wanted = set(itertools.product((False, True), (1, 0, -1), (-1, 0, 1)))
     require(wanted <= seen, f"the reach at {wanted - seen}")
+
+
+def check_shelf(lines):
+    """Each event on both sides of the last slot; the full shelf beside every other reason."""
+    seen = set(about_the_shelf(lines))
+    for verb, numbers in FULL_SHELF_BESIDE.items():
+        require((verb, 1, 1, 0, 0) in seen, f"{verb} kept in the last slot")
+        wanted = {(verb, 0, 0, 0, 0)} | {(verb, 1, 0, *pair) for pair in numbers}
+        require(wanted <= seen, f"on a full shelf {wanted - seen}")
+    wanted = {("reset", 1, 1, number, number) for number in (11, 12, 13)}
+    require(wanted <= seen, f"with one slot free {wanted - seen}")
+
+
+def about_the_shelf(lines):
+    """Of each event: the verb, the wish, how many slots are free, its number, and that not kept."""
+    program = listing.Program()
+    for text in lines:
+        verb, numbers = listing.parse(text) or (None, ())
+        if verb in listing.EVENTS and program.run:
+            unkept = getattr(book, verb)(program.book, *numbers[:-1], 0)[0]
+            free = program.run.shelf.count(None)
+            yield verb, numbers[-1], free, int(program.answer(text)[:3]), unkept
+        else:
+            program.answer(text)
 
 
 def turned(run):

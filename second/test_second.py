@@ -1,7 +1,8 @@
 """Tests of the second opinion itself: python3 second/test_second.py
 
 The example and the cases of docs/RULES.md; that the reach in phases is the reach
-by resets; that the fixed seeds and the stored listing find each error the desks
+by resets; that a kept event without a slot is refused whole and no call answers
+NoEvent; that the fixed seeds and the stored listing find each error the desks
 would make; and that the runners report.
 """
 
@@ -9,6 +10,7 @@ import contextlib
 import io
 import itertools
 import os
+import random
 import sys
 import unittest
 from unittest import mock
@@ -63,25 +65,23 @@ class Cases(unittest.TestCase):
             self.assertEqual(book.sound(given), number == book.DONE)
 
     def test_3_and_4_stamp_and_record(self):
-        _, (stamp,), after = calls(fresh(), ("local", 0))
-        self.assertEqual(stamp, (0, bytes((0, 1)) + bytes(14)))
-        _, _, after = calls(after, ("keep", 0))
+        _, (stamp, slot), after = calls(fresh(), ("local", 0, 1))
+        self.assertEqual((stamp, slot), ((0, bytes((0, 1)) + bytes(14)), 0))
         record = bytes.fromhex("535400030001") + bytes(14)
         self.assertEqual(book.write(after, 0, b"\xff" * 21), (0, (record + b"\xff",), after))
         self.assertEqual(book.write(after, 0, b"\xff" * 19), (book.NO_ROOM, (), after))
         self.assertEqual(book.show(after, 0), (0, (record[4:],), after))
         self.assertEqual(book.record_of(X, book.read_stamp(X, record)), record)
 
-    def test_5_to_8_refusals(self):
-        self.assertEqual(book.keep(fresh(), 2)[0], book.NO_EVENT)
-        self.assertEqual(book.send(fresh(), 0, 0)[0], book.SAME_DESK)
-        self.assertEqual(book.send(fresh(), 3, 3)[0], book.NO_DESK)
-        three = [("local", 0)] * 3
+    def test_6_to_8_refusals(self):
+        self.assertEqual(book.send(fresh(), 0, 0, 0)[0], book.SAME_DESK)
+        self.assertEqual(book.send(fresh(), 3, 3, 0)[0], book.NO_DESK)
+        three = [("local", 0, 0)] * 3
         self.assertEqual(calls(fresh(), *three)[1][0].row[1], 3)
-        self.assertEqual(calls(fresh(), *three, ("local", 0))[0], book.PHASE_FULL)
-        two = [("reset", 0)] * 2
+        self.assertEqual(calls(fresh(), *three, ("local", 0, 0))[0], book.PHASE_FULL)
+        two = [("reset", 0, 0)] * 2
         self.assertEqual(calls(fresh(), *two)[1][0].row[:2], bytes((2, 0)))
-        self.assertEqual(calls(fresh(), *two, ("reset", 0))[0], book.SEAT_BEHIND)
+        self.assertEqual(calls(fresh(), *two, ("reset", 0, 0))[0], book.SEAT_BEHIND)
 
     def test_the_lag_is_the_remainder_of_phases_of_the_ring(self):
         for P in range(3, 256):
@@ -123,28 +123,26 @@ class Cases(unittest.TestCase):
             e, f = (label(0, (phase, 1), (0, 0), setup=setup) for phase in (0, 2))
             self.assertEqual(book.label_compare(setup, e, f), (0, (answer,)))
 
-    def test_11_kept_twice(self):
-        given = calls(fresh(), ("local", 0), ("keep", 0), ("keep", 0))[2]
-        self.assertEqual(book.compare(given, 0, 1)[1], ("same",))
-        self.assertEqual(book.before(given, 0, 1)[1], (False,))
-        self.assertEqual(book.before(given, 1, 0)[1], (False,))
+    def test_11_one_slot(self):
+        given = calls(fresh(), ("local", 0, 1))[2]
+        self.assertEqual(book.compare(given, 0, 0)[1], ("same",))
+        self.assertEqual(book.before(given, 0, 0)[1], (False,))
 
     def test_12_not_yours(self):
-        given = calls(fresh(), ("send", 0, 1))[2]
-        self.assertEqual(book.receive(given, 2, 0), (book.NOT_YOURS, (), given))
-        self.assertEqual(book.receive(given, 1, 0)[0], book.DONE)
+        given = calls(fresh(), ("send", 0, 1, 0))[2]
+        self.assertEqual(book.receive(given, 2, 0, 0), (book.NOT_YOURS, (), given))
+        self.assertEqual(book.receive(given, 1, 0, 0)[0], book.DONE)
 
     def test_13_reach_on_the_book(self):
-        steps = [("local", 0), ("keep", 0), ("reset", 0)]
-        given = calls(fresh(), *steps, ("keep", 0))[2]
+        first, last = ("local", 0, 1), ("reset", 0, 1)
+        given = calls(fresh(), first, last)[2]
         self.assertEqual(book.compare(given, 0, 1)[:2], (0, ("before",)))
-        given = calls(fresh(), *steps, ("reset", 0), ("keep", 0))[2]
+        given = calls(fresh(), first, ("reset", 0, 0), last)[2]
         self.assertEqual(book.compare(given, 0, 1)[:2], (book.OUT_OF_REACH, ()))
 
     def test_reach_of_a_reset_on_the_book(self):
-        steps = [("local", 0), ("keep", 0), ("local", 1), ("keep", 1)]
-        steps += [("reset", 0)] * 2 + [("keep", 0), ("local", 0), ("keep", 0)]
-        given = calls(fresh(), *steps)[2]
+        given = calls(fresh(), ("local", 0, 1), ("local", 1, 1), ("reset", 0, 0),
+                      ("reset", 0, 1), ("local", 0, 1))[2]
         for other in (0, 1):
             self.assertEqual(book.before(given, 2, other)[:2], (0, (False,)))
             self.assertEqual(book.before(given, 3, other)[:2], (book.OUT_OF_REACH, ()))
@@ -167,12 +165,81 @@ class Cases(unittest.TestCase):
         self.assertEqual(book.label_newest(X._replace(P=4), b"", b""), (book.BAD_SETUP, ()))
 
     def test_numbers_of_any_size(self):
-        given = calls(fresh(), ("local", 0), ("keep", 0))[2]
+        given = calls(fresh(), ("local", 0, 1))[2]
         for big in (256, 2**32, 2**64 - 1, 2**64):
             self.assertEqual(book.start(given, *X._replace(D=big))[0], book.BAD_SETUP)
-            self.assertEqual(book.send(given, 0, big)[0], book.NO_DESK)
-            self.assertEqual(book.receive(given, 0, big)[0], book.NO_PLACE)
+            self.assertEqual(book.send(given, 0, big, 0)[0], book.NO_DESK)
+            self.assertEqual(book.receive(given, 0, big, 0)[0], book.NO_PLACE)
             self.assertEqual(book.before(given, 0, big)[0], book.NO_PLACE)
+            self.assertEqual(book.local(given, 0, big), book.local(given, 0, 1))
+
+
+# Kept events, under a setup by which 32 of them go on the shelf.
+
+ROOMY = book.Setup(3, 11, 255, 5, 9, 3, 3)
+KEPT_EVENTS = (("local", 1), ("send", 1, 2), ("receive", 2, 0), ("reset", 1))
+
+
+def shelf_of(count):
+    """A book with mail for desk 2 in place 0 and so many stamps kept."""
+    return calls(fresh(ROOMY), ("send", 1, 2, 0), *[("local", 0, 1)] * count)[2]
+
+
+def without_slot(given, slot):
+    at = book.slot_at(slot)
+    return given[:at] + book.SHELF_MARK + book.FREE + given[at + 20:]
+
+
+class Keeping(unittest.TestCase):
+    def test_kept_is_the_event_and_its_row_in_the_lowest_free_slot(self):
+        for verb, *numbers in KEPT_EVENTS:
+            for free in (0, 5, 31):
+                given = without_slot(shelf_of(32), free)
+                _, values, after = getattr(book, verb)(given, *numbers, 0)
+                stamp = values[-1]
+                kept = book.SHELF_MARK + bytes((stamp.owner + 1, 0)) + stamp.row
+                at = book.slot_at(free)
+                self.assertEqual(getattr(book, verb)(given, *numbers, 1),
+                                 (0, (*values, free), after[:at] + kept + after[at + 20:]))
+
+    def test_a_kept_event_without_a_slot_is_refused_whole(self):
+        given = shelf_of(32)
+        for verb, *numbers in KEPT_EVENTS:
+            self.assertEqual(getattr(book, verb)(given, *numbers, 1), (book.SHELF_FULL, (), given))
+            self.assertEqual(getattr(book, verb)(given, *numbers, 0)[0], book.DONE)
+
+    def test_the_mail_of_a_refused_receipt_waits(self):
+        given = calls(shelf_of(32), ("receive", 2, 0, 1))[2]
+        number, (stamp,), after = calls(given, ("receive", 2, 0, 0))
+        self.assertEqual((number, stamp.row[:6]), (0, bytes((0, 0, 0, 1, 0, 1))))
+        self.assertEqual(book.receive(after, 2, 0, 1)[0], book.NO_PLACE)
+        self.assertEqual(calls(given, ("drop", 9), ("receive", 2, 0, 1))[1], (stamp, 9))
+
+    def test_lags_are_those_of_the_book_as_it_was(self):
+        """A kept reset may leave a row behind, but never its own."""
+        given = calls(fresh(X), ("reset", 0, 1), ("reset", 0, 1))[2]
+        self.assertEqual(book.reset(given, 0, 1)[0], book.SEAT_BEHIND)
+        setup = book.Setup(2, 3, 9, 1, 1, 1, 1)
+        steps = [("reset", 0, 1), ("send", 0, 1, 0), ("receive", 1, 0, 0)]
+        given = calls(fresh(setup), *steps, *steps)[2]
+        self.assertEqual(book.reset(given, 0, 1)[0], book.SHELF_BEHIND)
+        self.assertEqual(calls(given, ("drop", 0), ("reset", 0, 1))[:2],
+                         (0, ((0, bytes(16)), 0)))
+
+    def test_full_shelf_comes_before_lags_where_it_is_kept(self):
+        rng = random.Random(10)
+        for number in (book.SEAT_BEHIND, book.MAIL_BEHIND, book.SHELF_BEHIND):
+            content, (desk,) = raw.answered(rng, "reset", number)
+            full = raw.shelf_with(rng, content, desk, 0)
+            self.assertEqual(book.reset(full, desk, 0)[0], number)
+            self.assertEqual(book.reset(full, desk, 1), (book.SHELF_FULL, (), full))
+
+    def test_no_call_answers_no_event(self):
+        asked = {asked.number for batch in raw.batches(raw.DEFAULT_CALLS, 7) for asked in batch}
+        self.assertEqual(asked, set(range(17)) - {book.NO_EVENT})
+        listings = [stored.data(), *map(seeds.listing, range(501, 541))]
+        printed = {text[:3] for data in listings for text in listing.lines_of(listing.answers(data))}
+        self.assertNotIn(b"007", printed)
 
 
 # The reach by the resets themselves, against the reach in phases.
@@ -216,15 +283,27 @@ class Text(unittest.TestCase):
         self.assertEqual(listing.answers(b""), b"")
         self.assertEqual(listing.answers(b"\n"), b"017\n")
         self.assertEqual(listing.answers(b"\n\n"), b"017\n017\n")
-        self.assertEqual(listing.answers(b"local 000"), b"001\n")
-        self.assertEqual(listing.answers(b"local 000\n\n"), b"001\n017\n")
+        self.assertEqual(listing.answers(b"local 000 000"), b"001\n")
+        self.assertEqual(listing.answers(b"local 000 001\n\n"), b"001\n017\n")
 
     def test_shapes(self):
-        for bad in (b"local 7", b"local 0007", b"local  007", b"local 007 ", b" local 007",
-                    b"Local 007", b"local\t007", b"local 007\r", b"local", b"local 00\xb2",
-                    b"show 000", b"local 000 000", b"local 000" + b" " * 60, b"local 007\0"):
+        for bad in (b"local 7 000", b"local 0007 000", b"local  007 000", b"local 007 000 ",
+                    b" local 007 000", b"Local 007 000", b"local\t007 000", b"local 007 000\r", b"local",
+                    b"local 00\xb2 000", b"show 000", b"keep 000", b"keep 000 001", b"drop 000 000",
+                    b"local 000 000" + b" " * 60, b"local 007 000\0"):
             self.assertEqual(listing.answers(bad), b"017\n", bad)
         self.assertEqual(listing.answers(b"start 999 999 999 999 999 999 999"), b"002\n")
+
+    def test_the_last_number_of_an_event(self):
+        """Any but 000 and 001 is a BadLine, whatever the call would answer."""
+        mail = b"start 003 005 004 002 004 002 002\nsend 000 001 000\n"
+        for event in (b"local 000", b"send 000 001", b"receive 001 000", b"reset 000",
+                      b"local 999", b"send 000 000", b"receive 000 000", b"reset 003"):
+            for last in (b" 002", b" 010", b" 100", b" 256", b" 999", b"", b" 000 000", b" 001 001"):
+                for given in (b"", mail):
+                    self.assertEqual(listing.answers(given + event + last).split(b"\n")[-2], b"017")
+            for last in (b" 000", b" 001"):
+                self.assertNotIn(b"017", listing.answers(mail + event + last))
 
 
 class Stored(unittest.TestCase):
@@ -239,10 +318,11 @@ class Stored(unittest.TestCase):
 # The errors the desks would make, each put in place of a part of book.py.
 
 TRUE = {name: getattr(book, name) for name in
-        ("receive", "reset_number", "merge", "later_pair", "answer_compare",
-         "says_before", "row_sound", "used_place_sound", "reach", "compare",
-         "label_compare", "difference_on_book", "difference_off_book", "permitted",
-         "start", "sound", "read_both")}
+        ("receive", "reset_number", "lag_number", "merge", "later_pair", "answer_compare",
+         "local_number", "send_number", "put_on_shelf", "shelf_full", "says_before",
+         "row_sound", "used_place_sound", "reach", "compare", "label_compare",
+         "difference_on_book", "difference_off_book", "permitted", "start", "sound",
+         "read_both")}
 
 
 def lag_without_adding_P(own, phase, P):
@@ -267,24 +347,87 @@ def nought_is_never_seen(e, f, d):
     return known != bytes(2) and TRUE["says_before"](e, f, d)
 
 
-def place_stays_used(given, desk, place):
-    number, values, after = TRUE["receive"](given, desk, place)
+def place_stays_used(given, desk, place, keep):
+    number, values, after = TRUE["receive"](given, desk, place, keep)
     if number == book.DONE:
         at = slice(book.place_at(place), book.place_at(place + 1))
         after = after[:at.start] + given[at] + after[at.stop:]
     return number, values, after
 
 
-def refused_receipt_frees(given, desk, place):
-    number, values, after = TRUE["receive"](given, desk, place)
+def refused_receipt_frees(given, desk, place, keep):
+    number, values, after = TRUE["receive"](given, desk, place, keep)
     if number in (book.NOT_YOURS, book.PHASE_FULL):
         after = book.discard(given, place)[2]
     return number, values, after
 
 
+def receipt_without_a_slot_frees(given, desk, place, keep):
+    number, values, after = TRUE["receive"](given, desk, place, keep)
+    if number == book.SHELF_FULL:
+        after = book.discard(given, place)[2]
+    return number, values, after
+
+
+def receipt_without_a_slot_is_made(given, desk, place, keep):
+    number, values, after = TRUE["receive"](given, desk, place, keep)
+    if number == book.SHELF_FULL:
+        after = TRUE["receive"](given, desk, place, 0)[2]
+    return number, values, after
+
+
 def only_seats_are_checked(given, desk):
-    number = TRUE["reset_number"](given, desk)
+    number = TRUE["lag_number"](given, desk)
     return book.DONE if number in (book.MAIL_BEHIND, book.SHELF_BEHIND) else number
+
+
+def lags_before_the_shelf(given, desk, keep):
+    return TRUE["reset_number"](given, desk, 0) or TRUE["reset_number"](given, desk, keep)
+
+
+def shelf_before_the_phase(given, desk, keep):
+    number = TRUE["local_number"](given, desk, keep)
+    full = number == book.PHASE_FULL and TRUE["shelf_full"](given, keep)
+    return book.SHELF_FULL if full else number
+
+
+def shelf_before_the_mail(given, desk, to, keep):
+    number = TRUE["send_number"](given, desk, to, keep)
+    full = number == book.MAIL_FULL and TRUE["shelf_full"](given, keep)
+    return book.SHELF_FULL if full else number
+
+
+def the_shelf_is_always_asked(given, keep):
+    return TRUE["shelf_full"](given, 1)
+
+
+def kept_without_being_asked(after, desk, keep):
+    asked = keep or book.lowest_free_slot(after) is not None
+    slot = TRUE["put_on_shelf"](after, desk, int(asked))
+    return slot if keep else ()
+
+
+def slot_without_a_stamp(after, desk, keep):
+    return TRUE["put_on_shelf"](bytearray(after), desk, keep)
+
+
+def the_highest_free_slot(after, desk, keep):
+    free = [slot for slot in range(32) if not book.slot_used(after, slot)]
+    with mock.patch.object(book, "lowest_free_slot", lambda _: free[-1]):
+        return TRUE["put_on_shelf"](after, desk, keep)
+
+
+def kept_before_the_clock_grows(after, desk, keep):
+    """The row that the seat had before a local, a send or a receive."""
+    seated = bytearray(after)
+    seated[book.own_entry(desk) + 1] = max(0, after[book.own_entry(desk) + 1] - 1)
+    slot = TRUE["put_on_shelf"](seated, desk, keep)
+    after[book.SHELF_AT:] = seated[book.SHELF_AT:]
+    return slot
+
+
+def kept_by_the_last_byte(after, desk, keep):
+    return TRUE["put_on_shelf"](after, desk, keep % 256)
 
 
 def own_phase_from_mail(after, given, desk, place):
@@ -388,21 +531,31 @@ def a_phase_short_for(name):
     return name, part
 
 
+KEEPING_ERRORS = (
+    ("receive", receipt_without_a_slot_frees), ("receive", receipt_without_a_slot_is_made),
+    ("reset_number", lags_before_the_shelf), ("local_number", shelf_before_the_phase),
+    ("send_number", shelf_before_the_mail), ("shelf_full", the_shelf_is_always_asked),
+    ("put_on_shelf", kept_without_being_asked), ("put_on_shelf", slot_without_a_stamp),
+    ("put_on_shelf", the_highest_free_slot), ("put_on_shelf", kept_before_the_clock_grows),
+)
+
 ERRORS = (
     ("lag_behind", lag_without_adding_P), ("lag_behind", own_above_v_subtracts),
     ("later_pair", larger_byte_is_later), ("says_before", nought_is_never_seen),
     ("receive", place_stays_used), ("receive", refused_receipt_frees),
-    ("reset_number", only_seats_are_checked), ("merge", own_phase_from_mail),
+    ("lag_number", only_seats_are_checked), ("merge", own_phase_from_mail),
     ("answer_compare", unreachable_is_concurrent), ("permitted", a_phase_short),
     ("compare", the_first_is_asked_both_ways),
     *(by_reach("difference_on_book", reach) for reach in REACHES),
+    *KEEPING_ERRORS,
 )
 
-# The last six no listing can show: they need books that no run reaches.
+# The last seven no listing can show: they need books that no run reaches, or a number that no line has.
 RAW_ERRORS = (
     ("lag_behind", lag_without_adding_P), ("lag_behind", own_above_v_subtracts),
     ("later_pair", larger_byte_is_later), ("says_before", nought_is_never_seen),
-    ("receive", place_stays_used), ("reset_number", only_seats_are_checked),
+    ("receive", place_stays_used), ("receive", refused_receipt_frees),
+    ("lag_number", only_seats_are_checked), *KEEPING_ERRORS,
     ("answer_compare", unreachable_is_concurrent), ("compare", the_first_is_asked_both_ways),
     ("label_compare", the_first_label_is_asked_both_ways),
     *(by_reach("difference_on_book", reach) for reach in REACHES),
@@ -411,6 +564,7 @@ RAW_ERRORS = (
     ("later_pair", nought_is_nothing), ("merge", own_entry_is_merged),
     ("row_sound", any_filler), ("row_sound", one_more_lag),
     ("row_sound", phases_come_round), ("used_place_sound", to_oneself_is_sound),
+    ("put_on_shelf", kept_by_the_last_byte),
 )
 
 
@@ -503,6 +657,19 @@ def beside(batch):
     return answers, ended
 
 
+def asks_a_slot_always(batch):
+    """A library that finds a slot buffer too short where no stamp is kept."""
+    with mock.patch.object(raw, "needs", lambda name, numbers: raw.NEEDS[name]):
+        return stand_in_library()(batch)
+
+
+def asks_a_slot_never(batch):
+    """A library that finds no slot buffer too short."""
+    unkept = {name: raw.needs(name, [0]) for name in raw.NEEDS}
+    with mock.patch.object(raw, "needs", lambda name, numbers: unkept[name]):
+        return stand_in_library()(batch)
+
+
 def ends_early(batch):
     return stand_in_library()(batch[:-1])[0], -11
 
@@ -513,14 +680,23 @@ def ends_badly(batch):
 
 # Every number each call can answer.
 POSSIBLE = {
-    "start": {0, 1, 2}, "local": {0, 1, 3, 8, 15}, "send": {0, 1, 3, 4, 8, 9, 15},
-    "receive": {0, 1, 3, 5, 6, 8, 15}, "reset": {0, 1, 3, 11, 12, 13, 15},
-    "keep": {0, 1, 3, 7, 10, 15}, "drop": {0, 1, 5}, "discard": {0, 1, 5},
+    "start": {0, 1, 2}, "local": {0, 1, 3, 8, 10, 15}, "send": {0, 1, 3, 4, 8, 9, 10, 15},
+    "receive": {0, 1, 3, 5, 6, 8, 10, 15}, "reset": {0, 1, 3, 10, 11, 12, 13, 15},
+    "drop": {0, 1, 5}, "discard": {0, 1, 5},
     "before": {0, 1, 5, 15, 16}, "compare": {0, 1, 5, 15, 16},
     "show": {0, 1, 5, 15}, "write": {0, 1, 5, 15},
     "label_before": {0, 2, 14, 15, 16}, "label_compare": {0, 2, 14, 15, 16},
     "label_newest": {0, 2, 14, 15, 16},
 }
+
+
+def told_of_shelf(trial):
+    """The event, its number not kept, the free slots, the wish, the slot buffer's length and the number."""
+    name, arguments = trial
+    (*numbers, wish), (given, *_, slot) = raw.parted(arguments)
+    unkept = getattr(book, name)(given.content(), *numbers, 0)[0]
+    free = sum(not book.slot_used(given.content(), number) for number in range(32))
+    return name, unkept, free, wish, slot.length, raw.expected(name, arguments)[0]
 
 
 class Raw(unittest.TestCase):
@@ -550,6 +726,22 @@ class Raw(unittest.TestCase):
         for name, error in RAW_ERRORS:
             with self.subTest(error.__name__):
                 self.found(stand_in_library(**{name: error}), "differs", "second", "library")
+
+    def test_the_shelf_beside_each_reason(self):
+        """With no slot free and with one, by wishes and lengths of the slot buffer."""
+        seen = set(map(told_of_shelf, raw.shelf_trials(random.Random(3))))
+        for (name, unkept), room in itertools.product(raw.UNKEPT, (0, 1, 2)):
+            full = unkept if unkept in (book.PHASE_FULL, book.MAIL_FULL) else book.SHELF_FULL
+            self.assertLessEqual({(name, unkept, 0, wish, room, full if wish else unkept)
+                                  for wish in raw.WISHES}, seen)
+        for name, room in itertools.product(listing.EVENTS, (0, 1, 2)):
+            last = book.NO_ROOM if room == 0 else book.DONE
+            self.assertLessEqual({(name, 0, 1, wish, room, last if wish else book.DONE)
+                                  for wish in raw.WISHES}, seen)
+
+    def test_slot_buffers_are_asked_where_it_is_kept(self):
+        self.found(asks_a_slot_always, "library 15")
+        self.found(asks_a_slot_never, "second answers 15")
 
     def test_a_bad_driver_is_told(self):
         self.found(beside, f"call {raw.BATCH} of seed 1", "buffer ")

@@ -46,48 +46,58 @@ static void start(void)
     REFUSED(BAD_SETUP, gulambitok_start(BOOK, 3, 4, 4, 2, 4, 2, 2));
     REFUSED(BAD_SETUP, gulambitok_start(BOOK, 256 + 3, 5, 4, 2, 4, 2, 2));
     REFUSED(BAD_SETUP, gulambitok_start(BOOK, 3, 5, 4, 2, 4, 3, 3));
-    REFUSED(BAD_BOOK, gulambitok_local(BOOK, 0, now.stamp, 20));
+    REFUSED(BAD_BOOK, gulambitok_local(BOOK, 0, 1, now.stamp, 20, now.slot, 1));
     DONE(gulambitok_start(BOOK, 3, 5, 4, 2, 4, 3, 2));
     DONE(gulambitok_start(BOOK, X));
     EXPECT(memcmp(now.book, "BK\3\5\4\2\4\2\2\0\0\0\0\0\0\0SE", 18) == 0);
 }
 
+/* 256 is a wish to keep like any other number but 0. */
 static void local(void)
 {
-    REFUSED(NO_DESK, gulambitok_local(BOOK, 256, NULL, 0));
-    REFUSED(NO_ROOM, gulambitok_local(BOOK, 0, now.stamp, 19));
-    DONE(gulambitok_local(BOOK, 0, now.stamp, 21));
+    REFUSED(NO_DESK, gulambitok_local(BOOK, 256, 0, NULL, 0, NULL, 0));
+    REFUSED(NO_ROOM, gulambitok_local(BOOK, 0, 0, now.stamp, 19, NULL, 0));
+    REFUSED(NO_ROOM, gulambitok_local(BOOK, 0, 1, now.stamp, 19, now.slot, 1));
+    REFUSED(NO_ROOM, gulambitok_local(BOOK, 0, 1, now.stamp, 20, NULL, 0));
+    REFUSED(NO_ROOM, gulambitok_local(BOOK, 0, 256, now.stamp, 20, now.slot, 0));
+    DONE(gulambitok_local(BOOK, 0, 0, now.stamp, 21, now.slot, 2));
     EXPECT(memcmp(now.stamp, "ST\0\3\0\1\0\0\0\0\0\0\0\0\0\0\0\0\0\0\xEE", 21) == 0);
+    EXPECT(now.slot[0] == 0xEE && now.slot[1] == 0xEE && now.book[GULAMBITOK_SHELF_AT + 2] == 0);
+    DONE(gulambitok_local(BOOK, 2, 256, now.stamp, 20, now.slot, 2));
+    EXPECT(now.slot[0] == 0 && now.slot[1] == 0xEE);
+    EXPECT(memcmp(now.book + GULAMBITOK_SHELF_AT, "SH\3\0\0\0\0\0\0\1", 10) == 0);
+    DONE(gulambitok_drop(BOOK, 0));
 }
 
 static void send_and_receive(void)
 {
-    REFUSED(SAME_DESK, gulambitok_send(BOOK, 0, 0, now.stamp, 20, now.place, 1));
-    REFUSED(NO_DESK, gulambitok_send(BOOK, 3, 3, now.stamp, 20, now.place, 1));
-    REFUSED(NO_ROOM, gulambitok_send(BOOK, 0, 1, now.stamp, 20, NULL, 0));
-    REFUSED(NO_ROOM, gulambitok_send(BOOK, 0, 1, now.stamp, 19, now.place, 1));
-    DONE(gulambitok_send(BOOK, 0, 1, now.stamp, 20, now.place, 2));
+    REFUSED(SAME_DESK, gulambitok_send(BOOK, 0, 0, 1, now.stamp, 20, now.place, 1, now.slot, 1));
+    REFUSED(NO_DESK, gulambitok_send(BOOK, 3, 3, 0, now.stamp, 20, now.place, 1, NULL, 0));
+    REFUSED(NO_ROOM, gulambitok_send(BOOK, 0, 1, 0, now.stamp, 20, NULL, 0, NULL, 0));
+    REFUSED(NO_ROOM, gulambitok_send(BOOK, 0, 1, 0, now.stamp, 19, now.place, 1, now.slot, 1));
+    REFUSED(NO_ROOM, gulambitok_send(BOOK, 0, 1, 1, now.stamp, 20, now.place, 1, NULL, 0));
+    DONE(gulambitok_send(BOOK, 0, 1, 0, now.stamp, 20, now.place, 2, NULL, 0));
     EXPECT(now.place[0] == 0 && now.place[1] == 0xEE && now.stamp[5] == 2);
-    REFUSED(NOT_YOURS, gulambitok_receive(BOOK, 2, 0, now.stamp, 20));
-    REFUSED(NO_PLACE, gulambitok_receive(BOOK, 1, 256, now.stamp, 20));
-    REFUSED(NO_ROOM, gulambitok_receive(BOOK, 1, 0, now.stamp, 19));
-    DONE(gulambitok_receive(BOOK, 1, 0, now.stamp, 20));
+    REFUSED(NOT_YOURS, gulambitok_receive(BOOK, 2, 0, 0, now.stamp, 20, NULL, 0));
+    REFUSED(NO_PLACE, gulambitok_receive(BOOK, 1, 256, 0, now.stamp, 20, NULL, 0));
+    REFUSED(NO_ROOM, gulambitok_receive(BOOK, 1, 0, 0, now.stamp, 19, NULL, 0));
+    REFUSED(NO_ROOM, gulambitok_receive(BOOK, 1, 0, 256, now.stamp, 20, NULL, 0));
+    DONE(gulambitok_send(BOOK, 0, 2, 1, now.stamp, 20, now.place, 1, now.slot, 2));
+    EXPECT(now.place[0] == 1 && now.slot[0] == 0 && now.slot[1] == 0xEE && now.stamp[5] == 3);
+    DONE(gulambitok_receive(BOOK, 1, 0, 1, now.stamp, 20, now.slot, 2));
     EXPECT(memcmp(now.stamp, "ST\1\3\0\2\0\1", 8) == 0);
-    DONE(gulambitok_send(BOOK, 0, 2, now.stamp, 20, now.place, 1));
-    DONE(gulambitok_discard(BOOK, 0));
-    REFUSED(NO_PLACE, gulambitok_discard(BOOK, 0));
-    REFUSED(PHASE_FULL, gulambitok_local(BOOK, 0, NULL, 0));
+    EXPECT(now.slot[0] == 1 && now.slot[1] == 0xEE);
+    DONE(gulambitok_discard(BOOK, 1));
+    REFUSED(NO_PLACE, gulambitok_discard(BOOK, 1));
+    DONE(gulambitok_send(BOOK, 1, 2, 0, now.stamp, 20, now.place, 1, NULL, 0));
+    DONE(gulambitok_receive(BOOK, 2, 0, 0, now.stamp, 20, now.slot, 2));
+    EXPECT(now.slot[0] == 1 && memcmp(now.stamp, "ST\2\3\0\2\0\2\0\2", 10) == 0);
+    REFUSED(PHASE_FULL, gulambitok_local(BOOK, 0, 1, NULL, 0, NULL, 0));
 }
 
 /* Slot 0 is desk 0 at 0.3, slot 1 is desk 1, which has seen 0.2 alone. */
 static void shelf(void)
 {
-    REFUSED(NO_EVENT, gulambitok_keep(BOOK, 2, now.slot, 1));
-    REFUSED(NO_ROOM, gulambitok_keep(BOOK, 0, NULL, 0));
-    DONE(gulambitok_keep(BOOK, 0, now.slot, 2));
-    EXPECT(now.slot[0] == 0 && now.slot[1] == 0xEE);
-    DONE(gulambitok_keep(BOOK, 1, now.slot, 1));
-    EXPECT(now.slot[0] == 1);
     REFUSED(NO_PLACE, gulambitok_before(BOOK, 0, 31, NULL, 0));
     REFUSED(NO_ROOM, gulambitok_before(BOOK, 0, 1, NULL, 0));
     DONE(gulambitok_before(BOOK, 0, 1, now.answer, 2));
@@ -95,6 +105,8 @@ static void shelf(void)
     REFUSED(NO_ROOM, gulambitok_compare(BOOK, 0, 1, NULL, 0));
     DONE(gulambitok_compare(BOOK, 0, 1, now.answer, 1));
     EXPECT(now.answer[0] == GULAMBITOK_CONCURRENT);
+    DONE(gulambitok_before(BOOK, 1, 1, now.answer, 1));
+    EXPECT(now.answer[0] == 0);
     DONE(gulambitok_compare(BOOK, 1, 1, now.answer, 1));
     EXPECT(now.answer[0] == GULAMBITOK_SAME);
     REFUSED(NO_ROOM, gulambitok_show(BOOK, 1, now.row, 15));
@@ -108,8 +120,9 @@ static void shelf(void)
 /* The record of desk 0 at 0.3 beside that of its reset. */
 static void reset_and_labels(void)
 {
-    REFUSED(NO_ROOM, gulambitok_reset(BOOK, 0, now.second, 19));
-    DONE(gulambitok_reset(BOOK, 0, now.second, 20));
+    REFUSED(NO_ROOM, gulambitok_reset(BOOK, 0, 0, now.second, 19, NULL, 0));
+    REFUSED(NO_ROOM, gulambitok_reset(BOOK, 0, 1, now.second, 20, NULL, 0));
+    DONE(gulambitok_reset(BOOK, 0, 0, now.second, 20, NULL, 0));
     EXPECT(memcmp(now.second, "ST\0\3\1\0\0\0", 8) == 0);
     REFUSED(BAD_SETUP, gulambitok_label_before(3, 4, 4, 2, 4, 2, 2, NULL, 0, NULL, 0, NULL, 0));
     REFUSED(BAD_SETUP, gulambitok_label_before(3, 5, 4, 2, 4, 3, 3, NULL, 0, NULL, 0, NULL, 0));
@@ -125,16 +138,15 @@ static void reset_and_labels(void)
     EXPECT(now.answer[0] == GULAMBITOK_SECOND && now.answer[1] == 0xEE);
     DONE(gulambitok_label_newest(X, now.second, 20, now.second, 20, now.answer, 1));
     EXPECT(now.answer[0] == GULAMBITOK_FIRST);
-    DONE(gulambitok_reset(BOOK, 0, now.second, 20));
-    REFUSED(SEAT_BEHIND, gulambitok_reset(BOOK, 0, NULL, 0));
+    DONE(gulambitok_reset(BOOK, 0, 256, now.second, 20, now.slot, 2));
+    EXPECT(now.slot[0] == 2 && now.slot[1] == 0xEE);
+    REFUSED(SEAT_BEHIND, gulambitok_reset(BOOK, 0, 1, NULL, 0, NULL, 0));
     REFUSED(OUT_OF_REACH, gulambitok_label_newest(X, now.first, 20, now.second, 20, now.answer, 1));
 }
 
-/* Desk 0's reset to 2.0 goes to slot 2, its local 2.1 to slot 3; slots 0 and 1 are two phases back. */
+/* Desk 0's reset to 2.0 is in slot 2, its local 2.1 goes to slot 3; slots 0 and 1 are two phases back. */
 static void reset_edge(void)
 {
-    DONE(gulambitok_keep(BOOK, 0, now.slot, 1));
-    EXPECT(now.slot[0] == 2);
     DONE(gulambitok_before(BOOK, 2, 0, now.answer, 1));
     EXPECT(now.answer[0] == 0);
     DONE(gulambitok_compare(BOOK, 2, 1, now.answer, 1));
@@ -144,14 +156,36 @@ static void reset_edge(void)
     REFUSED(OUT_OF_REACH, gulambitok_before(BOOK, 0, 2, now.answer, 1));
     REFUSED(OUT_OF_REACH, gulambitok_compare(BOOK, 2, 0, now.answer, 1));
     REFUSED(OUT_OF_REACH, gulambitok_label_compare(X, now.second, 20, now.first, 20, now.answer, 1));
-    DONE(gulambitok_local(BOOK, 0, now.second, 20));
-    DONE(gulambitok_keep(BOOK, 0, now.slot, 1));
+    DONE(gulambitok_local(BOOK, 0, 1, now.second, 20, now.slot, 1));
     EXPECT(now.slot[0] == 3);
     REFUSED(OUT_OF_REACH, gulambitok_before(BOOK, 3, 0, now.answer, 1));
     REFUSED(OUT_OF_REACH, gulambitok_compare(BOOK, 1, 3, now.answer, 1));
     REFUSED(OUT_OF_REACH, gulambitok_label_before(X, now.second, 20, now.first, 20, now.answer, 1));
     DONE(gulambitok_drop(BOOK, 0));
     REFUSED(NO_PLACE, gulambitok_drop(BOOK, 0));
+}
+
+/* Under L=40 locals fill the shelf. What is refused for it is refused whole, and the mail still waits. */
+static void full_shelf(void)
+{
+    DONE(gulambitok_start(BOOK, 3, 5, 40, 2, 4, 2, 2));
+    DONE(gulambitok_send(BOOK, 1, 2, 0, now.stamp, 20, now.place, 1, NULL, 0));
+    for (int slot = 0; slot < GULAMBITOK_SLOTS; slot++) {
+        DONE(gulambitok_local(BOOK, 0, 1, now.stamp, 20, now.slot, 1));
+        EXPECT(now.slot[0] == slot);
+    }
+    REFUSED(SHELF_FULL, gulambitok_local(BOOK, 0, 1, NULL, 0, NULL, 0));
+    REFUSED(SHELF_FULL, gulambitok_send(BOOK, 0, 1, 1, now.stamp, 20, now.place, 1, now.slot, 1));
+    REFUSED(SHELF_FULL, gulambitok_receive(BOOK, 2, 0, 256, now.stamp, 20, now.slot, 1));
+    REFUSED(SHELF_FULL, gulambitok_reset(BOOK, 0, 1, now.stamp, 20, now.slot, 1));
+    DONE(gulambitok_receive(BOOK, 2, 0, 0, now.stamp, 20, NULL, 0));
+    DONE(gulambitok_reset(BOOK, 0, 0, now.stamp, 20, NULL, 0));
+    DONE(gulambitok_reset(BOOK, 0, 0, now.stamp, 20, NULL, 0));
+    REFUSED(SHELF_FULL, gulambitok_reset(BOOK, 0, 1, now.stamp, 20, now.slot, 1));
+    REFUSED(SEAT_BEHIND, gulambitok_reset(BOOK, 0, 0, now.stamp, 20, NULL, 0));
+    DONE(gulambitok_drop(BOOK, 9));
+    DONE(gulambitok_local(BOOK, 1, 1, now.stamp, 20, now.slot, 1));
+    EXPECT(now.slot[0] == 9);
 }
 
 int main(void)
@@ -164,5 +198,6 @@ int main(void)
     shelf();
     reset_and_labels();
     reset_edge();
+    full_shelf();
     return wrong;
 }

@@ -12,7 +12,7 @@
 #include <stdio.h>
 #include <stdlib.h>
 
-enum { GUARD = 24, NUMBERS = 7, BUFFERS = 3 };
+enum { GUARD = 24, NUMBERS = 7, BUFFERS = 4 };
 
 struct lent {
     size_t length;
@@ -41,20 +41,19 @@ static uint8_t call(uint8_t place, const size_t *n, const struct lent *lent)
 {
     switch (place) {
     case 0: return gulambitok_start(LENT(0), SETUP);
-    case 1: return gulambitok_local(LENT(0), n[0], LENT(1));
-    case 2: return gulambitok_send(LENT(0), n[0], n[1], LENT(1), LENT(2));
-    case 3: return gulambitok_receive(LENT(0), n[0], n[1], LENT(1));
-    case 4: return gulambitok_reset(LENT(0), n[0], LENT(1));
-    case 5: return gulambitok_keep(LENT(0), n[0], LENT(1));
-    case 6: return gulambitok_drop(LENT(0), n[0]);
-    case 7: return gulambitok_discard(LENT(0), n[0]);
-    case 8: return gulambitok_before(LENT(0), n[0], n[1], LENT(1));
-    case 9: return gulambitok_compare(LENT(0), n[0], n[1], LENT(1));
-    case 10: return gulambitok_show(LENT(0), n[0], LENT(1));
-    case 11: return gulambitok_write(LENT(0), n[0], LENT(1));
-    case 12: return gulambitok_label_before(SETUP, LENT(0), LENT(1), LENT(2));
-    case 13: return gulambitok_label_compare(SETUP, LENT(0), LENT(1), LENT(2));
-    case 14: return gulambitok_label_newest(SETUP, LENT(0), LENT(1), LENT(2));
+    case 1: return gulambitok_local(LENT(0), n[0], n[1], LENT(1), LENT(2));
+    case 2: return gulambitok_send(LENT(0), n[0], n[1], n[2], LENT(1), LENT(2), LENT(3));
+    case 3: return gulambitok_receive(LENT(0), n[0], n[1], n[2], LENT(1), LENT(2));
+    case 4: return gulambitok_reset(LENT(0), n[0], n[1], LENT(1), LENT(2));
+    case 5: return gulambitok_drop(LENT(0), n[0]);
+    case 6: return gulambitok_discard(LENT(0), n[0]);
+    case 7: return gulambitok_before(LENT(0), n[0], n[1], LENT(1));
+    case 8: return gulambitok_compare(LENT(0), n[0], n[1], LENT(1));
+    case 9: return gulambitok_show(LENT(0), n[0], LENT(1));
+    case 10: return gulambitok_write(LENT(0), n[0], LENT(1));
+    case 11: return gulambitok_label_before(SETUP, LENT(0), LENT(1), LENT(2));
+    case 12: return gulambitok_label_compare(SETUP, LENT(0), LENT(1), LENT(2));
+    case 13: return gulambitok_label_newest(SETUP, LENT(0), LENT(1), LENT(2));
     }
     exit(2);
 }

@@ -8,18 +8,22 @@
 --   blind        a line's answer goes by the bytes of it that are kept
 --   bad-line     a BadLine prints its number, and makes no call
 --   long-line, no-line   a line over 64 bytes, and an empty one, is a BadLine
+--   line-no-event   NoEvent is answered to no line
 use Prim.Native.Nat.{ℕ, zero, suc, _≤_, _<_}
 use mathlib.Core.Path.{_≡_, refl, sym, ap, _∙_}
 use mathlib.Core.Bool.{Bool, true, false}
 use mathlib.Core.List.{List, [], _∷_, _++_}
+use mathlib.Core.Option.{Option, none, some}
 use native.Mathlib.Omega.{arith}
 use lib.ListN.{length}
 use Rattle.tools.specs.Lists.{byte}
 use Rattle.rules.specs.Model.{Act, Answer}
-use Rattle.rules.specs.Calls.{on}
+use Rattle.rules.specs.Calls.{Call, on}
+use Rattle.rules.specs.Numbers.{NoEvent, number}
 use Rattle.book.specs.Sound.{sound}
 use Rattle.book.specs.Answers.{admits, answerTo, bookAfter}
 use Rattle.book.specs.Numbers.{tablesOf, numberOf}
+use Rattle.book.proofs.Answers.{never-no-event}
 use Rattle.book.proofs.Codec.{decode-holds}
 use Rattle.book.proofs.Numbers.{doneOn, accepted-bytes, refused-bytes, ready}
 use Rattle.book.proofs.Told.{few-desks}
@@ -81,3 +85,10 @@ long-line b l h = bad-line b l (long-bad l (omega arith))
 pub no-line : (b : List ℕ) → (lineText b [] ≡ ascii "017" ++ (10 ∷ [])) × (lineBook b [] ≡ b)
 unfolding choose verbs
 no-line b = bad-line b [] (sift [] 0 refl)
+
+pub line-no-event : (b l : List ℕ) → answerOf b (callOf (parseOf l)) .number ≡ number NoEvent → ⊥
+line-no-event b l = go (callOf (parseOf l))
+  where
+    go : (o : Option Call) → answerOf b o .number ≡ number NoEvent → ⊥
+    go none e = absurd (omega arith)
+    go (some c) e = never-no-event b c e

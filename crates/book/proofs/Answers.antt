@@ -11,7 +11,7 @@ use Rattle.tools.specs.Reasons.{ifDone}
 use Rattle.tools.proofs.Reasons.{if-undone}
 use Rattle.rules.specs.declared.Setup.{Setup}
 use Rattle.rules.specs.Setups.{permits}
-use Rattle.rules.specs.Numbers.{BadBook, number}
+use Rattle.rules.specs.Numbers.{BadBook, NoEvent, number}
 use Rattle.rules.specs.Model.{Act, fresh, Answer, refusal}
 use Rattle.rules.specs.Calls.{Book, Call, start, on, Turn, ringOf, settled, call}
 use Rattle.book.specs.Fits.{Fits}
@@ -19,6 +19,7 @@ use Rattle.rules.proofs.Setups.{permitted}
 use Rattle.book.proofs.Fits.{fresh-fits, step-fits}
 use Rattle.rules.proofs.Steps.{step-refused}
 use Rattle.rules.proofs.Reasons.{never-bad}
+use Rattle.rules.proofs.Due.{call-no-event}
 use Rattle.book.specs.Layout.{fields, setupOf}
 use Rattle.book.specs.Sound.{sound}
 use Rattle.book.specs.Codec.{read, write, decode, encode}
@@ -40,6 +41,15 @@ bad-book s c = go (admits s c)
     go : (t : Bool) → (pick t (turnOn s c .answer) (refusal (number BadBook)) .number ≡ number BadBook) ↔ (t ≡ false)
     go true = (λ e. absurd (never-bad ringOf (decode s) c e), λ e. absurd (false≢true (sym e)))
     go false = (λ e. refl, λ e. refl)
+
+-- NoEvent is answered to no call, whatever the bytes
+pub never-no-event : (s : List ℕ) (c : Call) → answerTo s c .number ≡ number NoEvent → ⊥
+unfolding answerTo
+never-no-event s c = go (admits s c)
+  where
+    go : (t : Bool) → pick t (turnOn s c .answer) (refusal (number BadBook)) .number ≡ number NoEvent → ⊥
+    go true = call-no-event ringOf (decode s) c
+    go false = λ e. absurd (omega arith)
 
 -- a refused call leaves every byte
 pub refused : (s : List ℕ) (c : Call) → (answerTo s c .number ≡ 0 → ⊥) → bookAfter s c ≡ s

@@ -7,18 +7,18 @@ use Prim.Native.Nat.{ℕ, zero, suc, _+_, _*_, _≤_, _<_}
 use native.Mathlib.Omega.{arith}
 use borrow.Author.Tests.{eqb-false, ne-eqb}
 use Rattle.tools.specs.Tests.{pick}
-use Rattle.tools.specs.Tables.{put, Each}
-use Rattle.tools.proofs.Tables.{put-all, put-both, put-same}
+use Rattle.tools.specs.Tables.{put, putAt, Each}
+use Rattle.tools.proofs.Tables.{put-all, put-both, put-same, put-at-all, Each-map}
 use Rattle.ring.specs.Phases.{lagOf, nextOf, ring, Pair, isLater, later}
 use Rattle.ring.proofs.Ring.{lag-self, lag-next, next-below, later-lag}
 use Rattle.rules.specs.declared.Setup.{Setup}
-use Rattle.rules.specs.Model.{Row, Seat, Held, Tables, Act, local, reset, keep, drop, discard, send, receive, ask}
-use Rattle.rules.specs.Model.{step, done, why, fresh, idle, zeros, grown, merged, turned, seated, freeMail, freeSlot, rowIn}
+use Rattle.rules.specs.Model.{Row, Seat, Held, Tables, Act, local, reset, send, receive, drop, discard, ask}
+use Rattle.rules.specs.Model.{step, done, why, fresh, idle, zeros, grown, merged, turned, seated, freeMail, slotFor, rowIn}
 use Rattle.rules.specs.Model.{used, own, lags, seatLags, tick, turn, settle}
 use Rattle.rules.specs.Model.{phases}
 use Rattle.book.specs.Fits.{InRange, PairFits, RowFits, MailFits, SlotFits, FitsAt, Fits}
 use Rattle.rules.proofs.Setups.{Permitted}
-use Rattle.rules.proofs.Accepted.{no-local, no-send, no-receive, no-reset, no-keep}
+use Rattle.rules.proofs.Accepted.{no-local, no-send, no-receive, no-reset}
 
 -- zero lags behind zero by nothing
 pub zeros-fit : (X : Setup) → Permitted X → (o : ℕ → ℕ) → ((k : ℕ) → o k ≡ 0) → (B : ℕ) → RowFits X o B zeros
@@ -88,13 +88,23 @@ module _ (X : Setup) (ok : Permitted X) (b : Tables) (w : Fits X b) where
       (record { phase = own-range j l .phase; clock = c; lag = own-range j l .lag })
       (λ k ne. later-fits k (b .seat j .row k) (m k) C (w .seats j l k) (f k))
 
+  -- the shelf after an event at j that leaves row r, with its slot s
+  abbrev shelved : ℕ → Row → Option ℕ → ℕ → Option Held
+  shelved j r s = putAt (b .shelf) s (some record { by = j; to = 0; row = r })
+
+  kept-fits : (o : ℕ → ℕ) (j : ℕ) (r : Row) (s : Option ℕ) → j < X .desks → Each (λ p. p < 32) s → RowFits X o (X .seatLag) r
+      → ((p : ℕ) → Each (SlotFits X o p) (b .shelf p)) → (p : ℕ) → Each (SlotFits X o p) (shelved j r s p)
+  kept-fits o j r s l m f there =
+      put-at-all (λ p (h : Option Held). Each (SlotFits X o p) h) (b .shelf) s (some record { by = j; to = 0; row = r })
+      (Each-map (λ p z. record { place = z; by = l; to = refl; row = wider X o (X .seatLag) (X .shelfLag) r (ok .kept) f }) s m) there
+
   -- an event at j that leaves the own phases
-  quiet : (j : ℕ) (r : Row) (mail : ℕ → Option Held) → j < X .desks → r j .phase ≡ phases b j
+  quiet : (j : ℕ) (r : Row) (s : Option ℕ) (mail : ℕ → Option Held) → j < X .desks → Each (λ p. p < 32) s → r j .phase ≡ phases b j
       → RowFits X (phases b) (X .seatLag) r
       → ((p : ℕ) → Each (MailFits X (phases b) p) (mail p))
-      → Fits X (record { seat = seated b j r; mail = mail; shelf = b .shelf })
-  quiet j r mail l e f posts =
-      subst (λ o. FitsAt X o (record { seat = seated b j r; mail = mail; shelf = b .shelf })) (sym (fun-ext same))
+      → Fits X (record { seat = seated b j r; mail = mail; shelf = shelved j r s })
+  quiet j r s mail l m e f posts =
+      subst (λ o. FitsAt X o (record { seat = seated b j r; mail = mail; shelf = shelved j r s })) (sym (fun-ext same))
       (record {
         seats = put-all (λ s (t : Seat). s < X .desks → RowFits X (phases b) (X .seatLag) (t .row)) (b .seat) j
             (record { started = true; row = r }) (λ m. f) (λ s ne. w .seats s);
@@ -103,7 +113,7 @@ module _ (X : Setup) (ok : Permitted X) (b : Tables) (w : Fits X b) where
         beyond = put-all (λ s (t : Seat). X .desks ≤ s → t ≡ idle) (b .seat) j
             (record { started = true; row = r }) (λ z. absurd (omega arith)) (λ s ne. w .beyond s);
         mail = posts;
-        shelf = w .shelf;
+        shelf = kept-fits (phases b) j r s l m f (w .shelf);
       })
     where
       same : (k : ℕ) → (seated b j r k) .row k .phase ≡ phases b k
@@ -173,10 +183,10 @@ module _ (X : Setup) (ok : Permitted X) (b : Tables) (w : Fits X b) where
         row = reset-row j (X .shelfLag) (m .row) l (omega arith) (f .row) (eqb-false _ _ (h (f .place)));
       }
 
-  reset-fits : (j : ℕ) → why (Z X) X b (reset j) ≡ 0
-      → Fits X (record { seat = seated b j (turned (Z X) b j); mail = b .mail; shelf = b .shelf })
-  reset-fits j e =
-      subst (λ o. FitsAt X o (record { seat = seated b j (turned (Z X) b j); mail = b .mail; shelf = b .shelf }))
+  reset-fits : (j : ℕ) (q : Bool) → why (Z X) X b (reset j q) ≡ 0
+      → Fits X (record { seat = seated b j (turned (Z X) b j); mail = b .mail; shelf = shelved j (turned (Z X) b j) (slotFor b q) })
+  reset-fits j q e =
+      subst (λ o. FitsAt X o (record { seat = seated b j (turned (Z X) b j); mail = b .mail; shelf = shelved j (turned (Z X) b j) (slotFor b q) }))
       (sym (fun-ext grows))
       (record {
         seats = put-all (λ s (t : Seat). s < X .desks → RowFits X (ahead j) (X .seatLag) (t .row)) (b .seat) j
@@ -188,13 +198,16 @@ module _ (X : Setup) (ok : Permitted X) (b : Tables) (w : Fits X b) where
         beyond = put-all (λ s (t : Seat). X .desks ≤ s → t ≡ idle) (b .seat) j
             (record { started = true; row = turned (Z X) b j }) (λ z. absurd (omega (arith, l))) (λ s ne. w .beyond s);
         mail = λ p. reset-mail j p l (b .mail p) (w .mail p) (n .2 p);
-        shelf = λ s. reset-slot j s l (b .shelf s) (w .shelf s) (n .3 s);
+        shelf =
+            kept-fits (ahead j) j (turned (Z X) b j) (slotFor b q) l (n .4) (turned-fits j l)
+            (λ s. reset-slot j s l (b .shelf s) (w .shelf s) (n .3 s));
       })
     where
       n : (j < X .desks) × ((s : ℕ) → s < X .desks → seatLags (Z X) b j (X .seatLag) s ≡ false)
           × ((p : ℕ) → p < 32 → lags (Z X) b j (2 * X .seatLag) (b .mail p) ≡ false)
           × ((p : ℕ) → p < 32 → lags (Z X) b j (X .shelfLag) (b .shelf p) ≡ false)
-      n = no-reset (Z X) X b j e
+          × Each (λ s. s < 32) (slotFor b q)
+      n = no-reset (Z X) X b j q e
 
       l : j < X .desks
       l = n .0
@@ -207,13 +220,13 @@ module _ (X : Setup) (ok : Permitted X) (b : Tables) (w : Fits X b) where
 
   pub done-fits : (c : Act) → why (Z X) X b c ≡ 0 → Fits X ((done (Z X) X b c) .tables)
   unfolding done
-  done-fits (local j) e =
-      let n = no-local (Z X) X b j e in
-      quiet j (grown b j) (b .mail) (n .0) (ap (λ (q : Pair). q .phase) (put-same (b .seat j .row) j (tick (own b j))))
+  done-fits (local j q) e =
+      let n = no-local (Z X) X b j q e in
+      quiet j (grown b j) (slotFor b q) (b .mail) (n .0) (n .2) (ap (λ (q : Pair). q .phase) (put-same (b .seat j .row) j (tick (own b j))))
       (grown-fits j (n .0) (n .1)) (w .mail)
-  done-fits (send j k) e =
-      let n = no-send (Z X) X b j k e in
-      quiet j (grown b j) _ (n .0) (ap (λ (q : Pair). q .phase) (put-same (b .seat j .row) j (tick (own b j))))
+  done-fits (send j k q) e =
+      let n = no-send (Z X) X b j k q e in
+      quiet j (grown b j) (slotFor b q) _ (n .0) (n .5) (ap (λ (q : Pair). q .phase) (put-same (b .seat j .row) j (tick (own b j))))
       (grown-fits j (n .0) (n .1))
       (put-all (λ p o. Each (MailFits X (phases b) p) o) (b .mail) (freeMail b) (some record { by = j; to = k; row = grown b j })
       (record {
@@ -224,31 +237,14 @@ module _ (X : Setup) (ok : Permitted X) (b : Tables) (w : Fits X b) where
         row = wider X (phases b) (X .seatLag) (2 * X .seatLag) (grown b j) (omega arith) (grown-fits j (n .0) (n .1));
       })
       (λ p ne. w .mail p))
-  done-fits (receive j p) e =
-      let n = no-receive (Z X) X b j p e in
-      quiet j (merged (Z X) b j (rowIn (b .mail p))) _ (n .0)
+  done-fits (receive j p q) e =
+      let n = no-receive (Z X) X b j p q e in
+      quiet j (merged (Z X) b j (rowIn (b .mail p))) (slotFor b q) _ (n .0) (n .4)
       (ap (λ (q : Pair). q .phase)
       (put-same (λ k. later (Z X) (phases b k) (b .seat j .row k) (rowIn (b .mail p) k)) j (tick (own b j))))
       (merged-fits j (rowIn (b .mail p)) (2 * X .seatLag) (n .0) (n .2) (mail-row p (n .1)))
       (put-all (λ p o. Each (MailFits X (phases b) p) o) (b .mail) p none tt (λ p ne. w .mail p))
-  done-fits (reset j) e = reset-fits j e
-  done-fits (keep j) e =
-      let n = no-keep (Z X) X b j e in
-      record {
-        seats = w .seats;
-        unstarted = w .unstarted;
-        beyond = w .beyond;
-        mail = w .mail;
-        shelf =
-            put-all (λ s o. Each (SlotFits X (phases b) s) o) (b .shelf) (freeSlot b) (some record { by = j; to = 0; row = b .seat j .row })
-            (record {
-              place = n .2;
-              by = n .0;
-              to = refl;
-              row = wider X (phases b) (X .seatLag) (X .shelfLag) (b .seat j .row) (ok .kept) (w .seats j (n .0));
-            })
-            (λ s ne. w .shelf s);
-      }
+  done-fits (reset j q) e = reset-fits j q e
   done-fits (drop s) e =
       record {
         seats = w .seats;

@@ -6,7 +6,8 @@
 --   narrow, small     two desks that may lag one phase, as in the listing; the same with clocks and a reach to spare
 --   pair v t          the pair v.t
 --   Made, Shown       a stamp, and a value, as the listing shows it
---   plain, made, posted, inSlot, word, stands   nothing shown; a stamp; a stamp with its place; a slot; yes or no; a relation
+--   plain, made, posted, word, stands   nothing shown; a stamp; a stamp with its place; yes or no; a relation
+--   inSlot s v        the stamp v with its slot s, last
 --   pairs k n r       n pairs of the row r, from desk k on
 --   cut D e, shown D v   a stamp, and the value v, as the listing shows it, with D pairs
 --   Line              a number, and what is shown with it
@@ -15,13 +16,14 @@
 --   turnLine t        the line of a turn
 --   answers b c       what the ring answers to the calls of the case c, from the book b on
 --   opened X cs ls    the case of the calls cs after an accepted start
---   starred           the cases of calls, by their numbers
+--   starred           the cases of calls, by their numbers; there is no 5
 --   listing           the example of the rules
---   told-by p         desk 0 resets and tells desk 1 of it by the place p
+--   told-by p         desk 0 resets and tells desk 1 of it by the place p, nothing kept
 --   told-lines p v t  the lines of that: v the phase that desk 0 comes to, t the clock of desk 1
 --   errors            a run for each error that the desks would make; that of a received mail's place is case 12
 --   resets            runs that ask of resets, which reach a phase further back, and of other events
 --   upTo n            the numbers below n
+--   filling           32 kept events of desk 0, which fill the shelf; filled, their lines
 --   room              runs on places and slots: full ones, freed ones, and a stamp written or kept too long
 --   all               all of these
 --   laterOf own       the later of phases 4 and 0 in either order, on a ring of 5, at that own phase
@@ -40,7 +42,7 @@ use Rattle.ring.specs.Phases.{Pair, Gap, ring, later}
 use Rattle.rules.specs.declared.Setup.{Setup}
 use Rattle.rules.specs.declared.Relation.{Relation}
 use Rattle.rules.specs.declared.Relation.the-variants.{Before, After, Same, Concurrent}
-use Rattle.rules.specs.Model.{Row, Label, before, compare, write, local, reset, keep, drop, discard, send, receive, Value}
+use Rattle.rules.specs.Model.{Row, Label, before, compare, write, local, reset, send, receive, drop, discard, Value}
 use Rattle.rules.specs.Calls.{Book, Call, start, on, Turn, ringOf}
 use Rattle.rules.specs.Labels.{gapOff, beforeOff}
 use Rattle.history.specs.Runs.{run}
@@ -80,8 +82,8 @@ made j ps = record { place = none; stamp = some record { owner = j; pairs = ps }
 abbrev pub posted : ℕ → ℕ → List Pair → Shown
 posted p j ps = record { place = some p; stamp = some record { owner = j; pairs = ps }; slot = none; verdict = none; relation = none }
 
-abbrev pub inSlot : ℕ → Shown
-inSlot s = record { place = none; stamp = none; slot = some s; verdict = none; relation = none }
+abbrev pub inSlot : ℕ → Shown → Shown
+inSlot s v = record { place = v .place; stamp = v .stamp; slot = some s; verdict = none; relation = none }
 
 abbrev pub word : Bool → Shown
 word t = record { place = none; stamp = none; slot = none; verdict = some t; relation = none }
@@ -132,35 +134,27 @@ starred =
       lines = told plain ∷ refused 2 ∷ refused 2 ∷ [];
     }
     -- 3
-    ∷ opened X (on (local 0) ∷ []) (told (made 0 (pair 0 1 ∷ pair 0 0 ∷ pair 0 0 ∷ [])) ∷ [])
-    -- 5: NoEvent
-    ∷ opened X (on (keep 2) ∷ []) (refused 7 ∷ [])
+    ∷ opened X (on (local 0 false) ∷ []) (told (made 0 (pair 0 1 ∷ pair 0 0 ∷ pair 0 0 ∷ [])) ∷ [])
     -- 6: SameDesk, NoDesk
-    ∷ opened X (on (send 0 0) ∷ on (send 3 3) ∷ []) (refused 4 ∷ refused 3 ∷ [])
+    ∷ opened X (on (send 0 0 false) ∷ on (send 3 3 false) ∷ []) (refused 4 ∷ refused 3 ∷ [])
     -- 7: PhaseFull
-    ∷ opened X (on (local 0) ∷ on (local 0) ∷ on (local 0) ∷ on (local 0) ∷ [])
+    ∷ opened X (replicate 4 (on (local 0 false)))
     (told (made 0 (pair 0 1 ∷ pair 0 0 ∷ pair 0 0 ∷ []))
     ∷ told (made 0 (pair 0 2 ∷ pair 0 0 ∷ pair 0 0 ∷ []))
     ∷ told (made 0 (pair 0 3 ∷ pair 0 0 ∷ pair 0 0 ∷ []))
     ∷ refused 8
     ∷ [])
     -- 8: SeatBehind
-    ∷ opened X (on (reset 0) ∷ on (reset 0) ∷ on (reset 0) ∷ [])
+    ∷ opened X (replicate 3 (on (reset 0 false)))
     (told (made 0 (pair 1 0 ∷ pair 0 0 ∷ pair 0 0 ∷ []))
     ∷ told (made 0 (pair 2 0 ∷ pair 0 0 ∷ pair 0 0 ∷ []))
     ∷ refused 11
     ∷ [])
-    -- 11
-    ∷ opened X (on (local 0) ∷ on (keep 0) ∷ on (keep 0) ∷ on (compare 0 1) ∷ on (before 0 1) ∷ on (before 1 0) ∷ [])
-    (told (made 0 (pair 0 1 ∷ pair 0 0 ∷ pair 0 0 ∷ []))
-    ∷ told (inSlot 0)
-    ∷ told (inSlot 1)
-    ∷ told (stands Same)
-    ∷ told (word false)
-    ∷ told (word false)
-    ∷ [])
+    -- 11: one slot asked against itself
+    ∷ opened X (on (local 0 true) ∷ on (compare 0 0) ∷ on (before 0 0) ∷ [])
+    (told (inSlot 0 (made 0 (pair 0 1 ∷ pair 0 0 ∷ pair 0 0 ∷ []))) ∷ told (stands Same) ∷ told (word false) ∷ [])
     -- 12: NotYours; it still waits, and is gone once it is received: NoPlace
-    ∷ opened X (on (send 0 1) ∷ on (receive 2 0) ∷ on (receive 1 0) ∷ on (receive 1 0) ∷ [])
+    ∷ opened X (on (send 0 1 false) ∷ on (receive 2 0 false) ∷ on (receive 1 0 false) ∷ on (receive 1 0 false) ∷ [])
     (told (posted 0 0 (pair 0 1 ∷ pair 0 0 ∷ pair 0 0 ∷ []))
     ∷ refused 6
     ∷ told (made 1 (pair 0 1 ∷ pair 0 1 ∷ pair 0 0 ∷ []))
@@ -171,20 +165,16 @@ starred =
 abbrev pub listing : Case
 listing =
     opened narrow
-    (on (local 0)
-    ∷ on (keep 0)
-    ∷ on (send 0 1)
-    ∷ on (receive 1 0)
-    ∷ on (keep 1)
+    (on (local 0 true)
+    ∷ on (send 0 1 false)
+    ∷ on (receive 1 0 true)
     ∷ on (compare 0 1)
-    ∷ on (reset 0)
-    ∷ on (reset 0)
+    ∷ on (reset 0 false)
+    ∷ on (reset 0 false)
     ∷ [])
-    (told (made 0 (pair 0 1 ∷ pair 0 0 ∷ []))
-    ∷ told (inSlot 0)
+    (told (inSlot 0 (made 0 (pair 0 1 ∷ pair 0 0 ∷ [])))
     ∷ told (posted 0 0 (pair 0 2 ∷ pair 0 0 ∷ []))
-    ∷ told (made 1 (pair 0 2 ∷ pair 0 1 ∷ []))
-    ∷ told (inSlot 1)
+    ∷ told (inSlot 1 (made 1 (pair 0 2 ∷ pair 0 1 ∷ [])))
     ∷ told (stands Before)
     ∷ told (made 0 (pair 1 0 ∷ pair 0 0 ∷ []))
     ∷ refused 11
@@ -194,7 +184,7 @@ abbrev pub small : Setup
 small = record { desks = 2; phases = 3; clocks = 99; seatLag = 1; shelfLag = 1; back = 1; ahead = 2 }
 
 abbrev pub told-by : ℕ → List Call
-told-by p = on (reset 0) ∷ on (send 0 1) ∷ on (receive 1 p) ∷ []
+told-by p = on (reset 0 false) ∷ on (send 0 1 false) ∷ on (receive 1 p false) ∷ []
 
 abbrev pub told-lines : ℕ → ℕ → ℕ → List Line
 told-lines p v t =
@@ -209,40 +199,44 @@ errors =
     opened small (told-by 0 ++ told-by 0 ++ told-by 0) (told-lines 0 1 1 ++ told-lines 0 2 2 ++ told-lines 0 0 3)
     -- taking 0.0 as "nothing seen": the newest stamp of desk 0 is 0.0, and desk 1 has not seen it
     ∷ opened small
-    (told-by 0 ++ told-by 0 ++ on (keep 1) ∷ on (reset 0) ∷ on (keep 0) ∷ on (before 1 0) ∷ on (compare 1 0) ∷ [])
-    (told-lines 0 1 1 ++ told-lines 0 2 2
-    ++ told (inSlot 0)
-    ∷ told (made 0 (pair 0 0 ∷ pair 0 0 ∷ []))
-    ∷ told (inSlot 1)
+    (told-by 0
+    ++ on (reset 0 false)
+    ∷ on (send 0 1 false)
+    ∷ on (receive 1 0 true)
+    ∷ on (reset 0 true)
+    ∷ on (before 1 0)
+    ∷ on (compare 1 0)
+    ∷ [])
+    (told-lines 0 1 1
+    ++ told (made 0 (pair 2 0 ∷ pair 0 0 ∷ []))
+    ∷ told (posted 0 0 (pair 2 1 ∷ pair 0 0 ∷ []))
+    ∷ told (inSlot 0 (made 1 (pair 2 1 ∷ pair 0 2 ∷ [])))
+    ∷ told (inSlot 1 (made 0 (pair 0 0 ∷ pair 0 0 ∷ [])))
     ∷ told (word false)
     ∷ told (stands Concurrent)
     ∷ [])
     -- checking only seats at a reset: the mail in place 0 has waited for two phases, MailBehind
-    ∷ opened small (on (send 0 1) ∷ told-by 1 ++ told-by 1 ++ on (reset 0) ∷ [])
+    ∷ opened small (on (send 0 1 false) ∷ told-by 1 ++ told-by 1 ++ on (reset 0 false) ∷ [])
     (told (posted 0 0 (pair 0 1 ∷ pair 0 0 ∷ [])) ∷ told-lines 1 1 1 ++ told-lines 1 2 2 ++ refused 12 ∷ [])
     -- merging the receiver's own entry from the mail: desk 1 has a clock of 1, and the mail knows of 0
-    ∷ opened small (on (send 0 1) ∷ on (local 1) ∷ on (receive 1 0) ∷ [])
+    ∷ opened small (on (send 0 1 false) ∷ on (local 1 false) ∷ on (receive 1 0 false) ∷ [])
     (told (posted 0 0 (pair 0 1 ∷ pair 0 0 ∷ []))
     ∷ told (made 1 (pair 0 0 ∷ pair 0 1 ∷ []))
     ∷ told (made 1 (pair 0 1 ∷ pair 0 2 ∷ []))
     ∷ [])
     -- giving "concurrent" when one direction is out of reach: at desk 1 the difference is 0, at desk 0 it is -2, OutOfReach
     ∷ opened X
-    (on (local 1)
-    ∷ on (keep 1)
-    ∷ on (reset 0)
-    ∷ on (reset 0)
-    ∷ on (local 0)
-    ∷ on (keep 0)
+    (on (local 1 true)
+    ∷ on (reset 0 false)
+    ∷ on (reset 0 false)
+    ∷ on (local 0 true)
     ∷ on (before 0 1)
     ∷ on (compare 0 1)
     ∷ [])
-    (told (made 1 (pair 0 0 ∷ pair 0 1 ∷ pair 0 0 ∷ []))
-    ∷ told (inSlot 0)
+    (told (inSlot 0 (made 1 (pair 0 0 ∷ pair 0 1 ∷ pair 0 0 ∷ [])))
     ∷ told (made 0 (pair 1 0 ∷ pair 0 0 ∷ pair 0 0 ∷ []))
     ∷ told (made 0 (pair 2 0 ∷ pair 0 0 ∷ pair 0 0 ∷ []))
-    ∷ told (made 0 (pair 2 1 ∷ pair 0 0 ∷ pair 0 0 ∷ []))
-    ∷ told (inSlot 1)
+    ∷ told (inSlot 1 (made 0 (pair 2 1 ∷ pair 0 0 ∷ pair 0 0 ∷ [])))
     ∷ told (word false)
     ∷ refused 16
     ∷ [])
@@ -252,25 +246,19 @@ abbrev pub resets : List Case
 resets =
     -- from the reset 2.0 a difference of -2 is within reach, from the local 2.1 it is not; ahead 2 is beyond it from the local 0.1
     opened X
-    (on (local 0)
-    ∷ on (keep 0)
-    ∷ on (reset 0)
-    ∷ on (reset 0)
-    ∷ on (keep 0)
-    ∷ on (local 0)
-    ∷ on (keep 0)
+    (on (local 0 true)
+    ∷ on (reset 0 false)
+    ∷ on (reset 0 true)
+    ∷ on (local 0 true)
     ∷ on (before 1 0)
     ∷ on (before 2 0)
     ∷ on (before 0 1)
     ∷ on (compare 1 0)
     ∷ [])
-    (told (made 0 (pair 0 1 ∷ pair 0 0 ∷ pair 0 0 ∷ []))
-    ∷ told (inSlot 0)
+    (told (inSlot 0 (made 0 (pair 0 1 ∷ pair 0 0 ∷ pair 0 0 ∷ [])))
     ∷ told (made 0 (pair 1 0 ∷ pair 0 0 ∷ pair 0 0 ∷ []))
-    ∷ told (made 0 (pair 2 0 ∷ pair 0 0 ∷ pair 0 0 ∷ []))
-    ∷ told (inSlot 1)
-    ∷ told (made 0 (pair 2 1 ∷ pair 0 0 ∷ pair 0 0 ∷ []))
-    ∷ told (inSlot 2)
+    ∷ told (inSlot 1 (made 0 (pair 2 0 ∷ pair 0 0 ∷ pair 0 0 ∷ [])))
+    ∷ told (inSlot 2 (made 0 (pair 2 1 ∷ pair 0 0 ∷ pair 0 0 ∷ [])))
     ∷ told (word false)
     ∷ refused 16
     ∷ refused 16
@@ -278,23 +266,17 @@ resets =
     ∷ [])
     -- where more is permitted ahead than back, two resets one phase apart compare; each way goes by its own first stamp
     ∷ opened uneven
-    (on (reset 0)
-    ∷ on (keep 0)
-    ∷ on (reset 0)
-    ∷ on (keep 0)
-    ∷ on (local 0)
-    ∷ on (keep 0)
+    (on (reset 0 true)
+    ∷ on (reset 0 true)
+    ∷ on (local 0 true)
     ∷ on (compare 0 1)
     ∷ on (compare 1 0)
     ∷ on (before 0 2)
     ∷ on (compare 0 2)
     ∷ [])
-    (told (made 0 (pair 1 0 ∷ pair 0 0 ∷ pair 0 0 ∷ []))
-    ∷ told (inSlot 0)
-    ∷ told (made 0 (pair 2 0 ∷ pair 0 0 ∷ pair 0 0 ∷ []))
-    ∷ told (inSlot 1)
-    ∷ told (made 0 (pair 2 1 ∷ pair 0 0 ∷ pair 0 0 ∷ []))
-    ∷ told (inSlot 2)
+    (told (inSlot 0 (made 0 (pair 1 0 ∷ pair 0 0 ∷ pair 0 0 ∷ [])))
+    ∷ told (inSlot 1 (made 0 (pair 2 0 ∷ pair 0 0 ∷ pair 0 0 ∷ [])))
+    ∷ told (inSlot 2 (made 0 (pair 2 1 ∷ pair 0 0 ∷ pair 0 0 ∷ [])))
     ∷ told (stands Before)
     ∷ told (stands After)
     ∷ told (word true)
@@ -305,26 +287,66 @@ resets =
 abbrev pub upTo : ℕ → List ℕ
 upTo n = tab 0 n (λ i. i)
 
+abbrev pub filling : List Call
+filling = replicate 32 (on (local 0 true))
+
+abbrev pub filled : List Line
+filled = map (λ s. told (inSlot s (made 0 (pair 0 (s + 1) ∷ pair 0 0 ∷ [])))) (upTo 32)
+
 abbrev pub room : List Case
 room =
     -- 32 sends fill the places from the lowest on, one more is MailFull, and the next fills the place that a discard frees
-    opened small (replicate 33 (on (send 0 1)) ++ on (discard 7) ∷ on (send 0 1) ∷ [])
+    opened small (replicate 33 (on (send 0 1 false)) ++ on (discard 7) ∷ on (send 0 1 false) ∷ [])
     (map (λ p. told (posted p 0 (pair 0 (p + 1) ∷ pair 0 0 ∷ []))) (upTo 32)
     ++ refused 9
     ∷ told plain
     ∷ told (posted 7 0 (pair 0 33 ∷ pair 0 0 ∷ []))
     ∷ [])
-    -- 32 keeps fill the slots, one more is ShelfFull, and the next fills the slot that a drop frees
-    ∷ opened small (on (local 0) ∷ replicate 33 (on (keep 0)) ++ on (drop 7) ∷ on (keep 0) ∷ [])
-    (told (made 0 (pair 0 1 ∷ pair 0 0 ∷ []))
-    ∷ map (λ s. told (inSlot s)) (upTo 32)
-    ++ refused 10
-    ∷ told plain
-    ∷ told (inSlot 7)
+    -- 32 kept events fill the slots, one more is ShelfFull, and the next fills the slot that a drop frees
+    ∷ opened small (filling ++ on (local 0 true) ∷ on (drop 7) ∷ on (local 0 true) ∷ [])
+    (filled ++ refused 10 ∷ told plain ∷ told (inSlot 7 (made 0 (pair 0 33 ∷ pair 0 0 ∷ []))) ∷ [])
+    -- on a full shelf each event that is to be kept is ShelfFull and leaves clocks, places and waiting mail: the next send has the
+    -- next place, and desk 1 receives without keeping; a slot that a drop frees is the next kept event's, the lowest first
+    ∷ opened small
+    (filling
+    ++ on (send 0 1 false)
+    ∷ on (local 0 true)
+    ∷ on (send 0 1 true)
+    ∷ on (receive 1 0 true)
+    ∷ on (reset 0 true)
+    ∷ on (send 0 1 false)
+    ∷ on (receive 1 0 false)
+    ∷ on (drop 9)
+    ∷ on (drop 7)
+    ∷ on (send 0 1 true)
+    ∷ on (receive 1 1 true)
     ∷ [])
+    (filled
+    ++ told (posted 0 0 (pair 0 33 ∷ pair 0 0 ∷ []))
+    ∷ refused 10
+    ∷ refused 10
+    ∷ refused 10
+    ∷ refused 10
+    ∷ told (posted 1 0 (pair 0 34 ∷ pair 0 0 ∷ []))
+    ∷ told (made 1 (pair 0 33 ∷ pair 0 1 ∷ []))
+    ∷ told plain
+    ∷ told plain
+    ∷ told (inSlot 7 (posted 0 0 (pair 0 35 ∷ pair 0 0 ∷ [])))
+    ∷ told (inSlot 9 (made 1 (pair 0 34 ∷ pair 0 2 ∷ [])))
+    ∷ [])
+    -- the smallest number: a reset that is to be kept on a full shelf is ShelfFull also where the seat lags, else SeatBehind
+    ∷ opened small (filling ++ on (reset 0 false) ∷ on (reset 0 true) ∷ on (reset 0 false) ∷ [])
+    (filled ++ told (made 0 (pair 1 0 ∷ pair 0 0 ∷ [])) ∷ refused 10 ∷ refused 11 ∷ [])
     -- a discard frees its place alone: the other mail still waits and is received; NoPlace for a place free or above 31
     ∷ opened small
-    (on (send 0 1) ∷ on (send 0 1) ∷ on (discard 0) ∷ on (receive 1 0) ∷ on (receive 1 1) ∷ on (send 0 1) ∷ on (discard 32) ∷ [])
+    (on (send 0 1 false)
+    ∷ on (send 0 1 false)
+    ∷ on (discard 0)
+    ∷ on (receive 1 0 false)
+    ∷ on (receive 1 1 false)
+    ∷ on (send 0 1 false)
+    ∷ on (discard 32)
+    ∷ [])
     (told (posted 0 0 (pair 0 1 ∷ pair 0 0 ∷ []))
     ∷ told (posted 1 0 (pair 0 2 ∷ pair 0 0 ∷ []))
     ∷ told plain
@@ -335,34 +357,29 @@ room =
     ∷ [])
     -- a drop frees its slot alone: the other stamp is still kept, and is written into 20 bytes; 19 are NoRoom
     ∷ opened small
-    (on (local 0)
-    ∷ on (keep 0)
-    ∷ on (keep 0)
+    (on (local 0 true)
+    ∷ on (local 0 true)
     ∷ on (drop 0)
     ∷ on (write 0 20)
     ∷ on (write 1 19)
     ∷ on (write 1 20)
-    ∷ on (local 0)
-    ∷ on (keep 0)
+    ∷ on (local 0 true)
     ∷ on (compare 1 0)
     ∷ on (drop 32)
     ∷ [])
-    (told (made 0 (pair 0 1 ∷ pair 0 0 ∷ []))
-    ∷ told (inSlot 0)
-    ∷ told (inSlot 1)
+    (told (inSlot 0 (made 0 (pair 0 1 ∷ pair 0 0 ∷ [])))
+    ∷ told (inSlot 1 (made 0 (pair 0 2 ∷ pair 0 0 ∷ [])))
     ∷ told plain
     ∷ refused 5
     ∷ refused 15
-    ∷ told (made 0 (pair 0 1 ∷ pair 0 0 ∷ []))
     ∷ told (made 0 (pair 0 2 ∷ pair 0 0 ∷ []))
-    ∷ told (inSlot 0)
+    ∷ told (inSlot 0 (made 0 (pair 0 3 ∷ pair 0 0 ∷ [])))
     ∷ told (stands Before)
     ∷ refused 5
     ∷ [])
     -- ShelfBehind: a kept stamp lags as far as it may, until it is dropped
-    ∷ opened small (on (local 0) ∷ on (keep 0) ∷ told-by 0 ++ on (reset 0) ∷ on (drop 0) ∷ on (reset 0) ∷ [])
-    (told (made 0 (pair 0 1 ∷ pair 0 0 ∷ []))
-    ∷ told (inSlot 0)
+    ∷ opened small (on (local 0 true) ∷ told-by 0 ++ on (reset 0 false) ∷ on (drop 0) ∷ on (reset 0 false) ∷ [])
+    (told (inSlot 0 (made 0 (pair 0 1 ∷ pair 0 0 ∷ [])))
     ∷ told-lines 0 1 1
     ++ refused 13
     ∷ told plain

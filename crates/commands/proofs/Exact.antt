@@ -9,14 +9,14 @@ use mathlib.Core.List.{List, [], _∷_, _++_}
 use mathlib.Core.Logic.{_⊎_, ⊎-elim}
 use native.Mathlib.Nat.{not-suc-le-zero, le-of-suc-le-suc, add-zero}
 use native.Mathlib.Omega.{arith}
-use borrow.Author.Tests.{eqb-true, eq-eqb, le-leb}
+use borrow.Author.Tests.{eqb-true, eq-eqb, lt-ltb, le-leb}
 use lib.ListN.{length, length-append, List·getD-append}
 use lib.Seq.{ext-getD, getD-append-add}
 use Rattle.tools.specs.Tests.{pick, allOf, allBelow, within}
 use Rattle.tools.specs.Lists.{byte, tab}
 use Rattle.tools.proofs.Tests.{each, all-at, all-in, lt-or-le}
 use Rattle.tools.proofs.Lists.{length-tab, tab-at, is-tab}
-use Rattle.text.specs.Words.{opens}
+use Rattle.text.specs.Words.{ascii, opens}
 use Rattle.text.specs.Digits.{isDigit, isNumber, numberAt, numbersAt}
 use Rattle.text.specs.Put.{field}
 use Rattle.text.proofs.Numerals.{Digits, digits}
@@ -27,15 +27,14 @@ use Rattle.commands.specs.declared.Command.the-variants.{
   Send,
   Receive,
   Reset,
-  Keep,
   Drop,
   Discard,
   Before,
   Compare,
   Bad,
 }
-use Rattle.commands.specs.Lines.{shaped, Verb, verbs, choose, parseOf}
-use Rattle.commands.specs.Written.{fields, numbersOf, textOf, Small}
+use Rattle.commands.specs.Lines.{shaped, Verb, wish, verbs, choose, parseOf}
+use Rattle.commands.specs.Written.{fields, wishNumber, numbersOf, textOf, Small}
 use Rattle.commands.proofs.Shapes.{sized, number-there, sift}
 
 fields-length : (ns : List ℕ) → length (fields ns) ≡ 4 * length ns
@@ -111,14 +110,18 @@ own : (v : Verb) (vs : List Verb) (ns : List ℕ) → v .count ≡ length ns →
 unfolding choose
 own v vs ns e s = rw (choose, e, is-shaped (v .word) ns s, numbers-back (v .word) ns s)
 
+-- a yes or no that is written out is read back
+wish-back : (q : Bool) (c : Bool → Command) → wish (wishNumber q) c ≡ c q
+wish-back true c = refl
+wish-back false c = refl
+
 pub written : (c : Command) → (c ≡ Bad → ⊥) → Small (numbersOf c) → parseOf (textOf c) ≡ c
 unfolding verbs opens allBelow
 written (Start x) g s = sift _ _ refl ∙ own _ _ (numbersOf (Start x)) refl s
-written (Local d) g s = sift _ _ refl ∙ own _ _ (d ∷ []) refl s
-written (Send d k) g s = sift _ _ refl ∙ own _ _ (d ∷ k ∷ []) refl s
-written (Receive d p) g s = sift _ _ refl ∙ own _ _ (d ∷ p ∷ []) refl s
-written (Reset d) g s = sift _ _ refl ∙ own _ _ (d ∷ []) refl s
-written (Keep d) g s = sift _ _ refl ∙ own _ _ (d ∷ []) refl s
+written (Local d q) g s = sift _ _ refl ∙ own _ _ (numbersOf (Local d q)) refl s ∙ wish-back q (Local d)
+written (Send d k q) g s = sift _ _ refl ∙ own _ _ (numbersOf (Send d k q)) refl s ∙ wish-back q (Send d k)
+written (Receive d p q) g s = sift _ _ refl ∙ own _ _ (numbersOf (Receive d p q)) refl s ∙ wish-back q (Receive d p)
+written (Reset d q) g s = sift _ _ refl ∙ own _ _ (numbersOf (Reset d q)) refl s ∙ wish-back q (Reset d)
 written (Drop d) g s = sift _ _ refl ∙ own _ _ (d ∷ []) refl s
 written (Discard p) g s = sift _ _ refl ∙ own _ _ (p ∷ []) refl s
 written (Before d k) g s = sift _ _ refl ∙ own _ _ (d ∷ k ∷ []) refl s
@@ -177,20 +180,25 @@ module _ (l w : List ℕ) (n : ℕ) (h : shaped l w n ≡ true) where
 abbrev Written : List ℕ → Command → Type 0
 Written l c = (l ≡ textOf c) × Small (numbersOf c)
 
--- what each verb makes of its numbers is written as the verb and these numbers
+-- a command is written as this word and these numbers
+abbrev Says : List ℕ → List ℕ → Command → Type 0
+Says w ns c = (textOf c ≡ w ++ fields ns) × (numbersOf c ≡ ns)
+
+-- what each verb makes of its numbers is written as the verb and these numbers, but for `Bad`
 data Fair : List Verb → Type 0 where
   none : Fair []
   more
       : {v : Verb} {vs : List Verb}
-      → ((f : ℕ → ℕ) → textOf (v .made (tab 0 (v .count) f)) ≡ v .word ++ fields (tab 0 (v .count) f))
-      → ((f : ℕ → ℕ) → numbersOf (v .made (tab 0 (v .count) f)) ≡ tab 0 (v .count) f)
+      → ((f : ℕ → ℕ)
+      → (v .made (tab 0 (v .count) f) ≡ Bad → ⊥)
+      → Says (v .word) (tab 0 (v .count) f) (v .made (tab 0 (v .count) f)))
       → Fair vs
       → Fair (v ∷ vs)
 
 choose-reads : (vs : List Verb) → Fair vs → (l : List ℕ) → (choose vs l ≡ Bad → ⊥) → Written l (choose vs l)
 unfolding choose
 choose-reads [] none l g = absurd (g refl)
-choose-reads (v ∷ vs) (more text numbers f) l g =
+choose-reads (v ∷ vs) (more says f) l g =
     go (shaped l (v .word) (v .count)) refl g (choose-reads vs f l)
   where
     go
@@ -199,25 +207,35 @@ choose-reads (v ∷ vs) (more text numbers f) l g =
         → (pick t (v .made (numbersAt l (length (v .word)) (v .count))) (choose vs l) ≡ Bad → ⊥)
         → ((choose vs l ≡ Bad → ⊥) → Written l (choose vs l))
         → Written l (pick t (v .made (numbersAt l (length (v .word)) (v .count))) (choose vs l))
-    go true e k ih = (
-      shape-back l (v .word) (v .count) e ∙ sym (text _),
-      rw (numbers (λ i. numberAt l (length (v .word) + 4 * i))) (small-back l (v .word) (v .count) e),
-    )
+    go true e k ih =
+        let said = says (λ i. numberAt l (length (v .word) + 4 * i)) k in
+        (shape-back l (v .word) (v .count) e ∙ sym (said .0), rw (said .1) (small-back l (v .word) (v .count) e))
     go false e k ih = ih k
+
+-- what holds of a yes and a no holds of every command that a last number makes
+by-wish
+    : (P : ℕ → Command → Type 0) (c : Bool → Command)
+    → P 0 (c false)
+    → P 1 (c true)
+    → (q : ℕ)
+    → (wish q c ≡ Bad → ⊥)
+    → P q (wish q c)
+by-wish P c not-kept kept zero g = not-kept
+by-wish P c not-kept kept (suc zero) g = kept
+by-wish P c not-kept kept (suc (suc q)) g = absurd (g (rw (lt-ltb 1 (suc (suc q)) (omega arith))))
 
 all-fair : Fair verbs
 unfolding verbs tab
 all-fair =
-    more (λ f. refl) (λ f. refl)
-    (more (λ f. refl) (λ f. refl)
-    (more (λ f. refl) (λ f. refl)
-    (more (λ f. refl) (λ f. refl)
-    (more (λ f. refl) (λ f. refl)
-    (more (λ f. refl) (λ f. refl)
-    (more (λ f. refl) (λ f. refl)
-    (more (λ f. refl) (λ f. refl)
-    (more (λ f. refl) (λ f. refl)
-    (more (λ f. refl) (λ f. refl) none)))))))))
+    more (λ f g. (refl, refl))
+    (more (λ f. by-wish (λ q. Says (ascii "local") (f 0 ∷ q ∷ [])) (Local (f 0)) (refl, refl) (refl, refl) (f 1))
+    (more (λ f. by-wish (λ q. Says (ascii "send") (f 0 ∷ f 1 ∷ q ∷ [])) (Send (f 0) (f 1)) (refl, refl) (refl, refl) (f 2))
+    (more (λ f. by-wish (λ q. Says (ascii "receive") (f 0 ∷ f 1 ∷ q ∷ [])) (Receive (f 0) (f 1)) (refl, refl) (refl, refl) (f 2))
+    (more (λ f. by-wish (λ q. Says (ascii "reset") (f 0 ∷ q ∷ [])) (Reset (f 0)) (refl, refl) (refl, refl) (f 1))
+    (more (λ f g. (refl, refl))
+    (more (λ f g. (refl, refl))
+    (more (λ f g. (refl, refl))
+    (more (λ f g. (refl, refl)) none))))))))
 
 pub reads : (l : List ℕ) (c : Command) → parseOf l ≡ c → (c ≡ Bad → ⊥) → (l ≡ textOf c) × Small (numbersOf c)
 unfolding parseOf

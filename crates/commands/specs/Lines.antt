@@ -2,19 +2,20 @@
 -- Assumes nothing. In words: docs/RULES.md, "Listing".
 --   shaped l w n    the line is the word w and n numbers
 --   Verb            a word, how many numbers follow it, and the command that they make
+--   wish q c        the command c of a yes or no: 1 is yes, 0 no, any other number makes `Bad`
 --   questions       the verbs that ask about two slots
---   filings         those that fill or free a slot or a place
---   events          those of the four events
+--   filings         those that free a slot or a place
+--   events          those of the four events, whose last number says whether to keep the stamp
 --   verbs           all verbs, start first
 --   choose vs l     the command of the first verb whose line l is; `Bad` where there is none
---   parseOf l       the command of a line; `Bad` for a line of any other shape
+--   parseOf l       the command of a line; `Bad` for any other line
 --   setupFrom ns    the setup that seven numbers make
 --   callOf c        the call that a command asks for; none for `Bad`
 use Prim.Native.Nat.{ℕ, _+_, _*_}
 use mathlib.Core.Bool.{Bool}
 use mathlib.Core.List.{List, [], _∷_, _++_}
 use mathlib.Core.Option.{Option, none, some}
-use lib.Dec.{eqb}
+use lib.Dec.{eqb, ltb}
 use lib.ListN.{length}
 use Rattle.tools.specs.Tests.{pick, allOf, allBelow}
 use Rattle.tools.specs.Lists.{byte}
@@ -30,7 +31,6 @@ use Rattle.commands.specs.declared.Command.the-variants.{
   Send,
   Receive,
   Reset,
-  Keep,
   Drop,
   Discard,
   Before,
@@ -59,6 +59,9 @@ setupFrom ns =
       ahead = byte ns 6;
     }
 
+abbrev pub wish : ℕ → (Bool → Command) → Command
+wish q c = pick (ltb 1 q) Bad (c (eqb q 1))
+
 abbrev pub questions : List Verb
 questions =
     (record { word = ascii "before"; count = 2; made = λ ns. Before (byte ns 0) (byte ns 1) })
@@ -67,17 +70,16 @@ questions =
 
 abbrev pub filings : List Verb
 filings =
-    (record { word = ascii "keep"; count = 1; made = λ ns. Keep (byte ns 0) })
-    ∷ (record { word = ascii "drop"; count = 1; made = λ ns. Drop (byte ns 0) })
+    (record { word = ascii "drop"; count = 1; made = λ ns. Drop (byte ns 0) })
     ∷ (record { word = ascii "discard"; count = 1; made = λ ns. Discard (byte ns 0) })
     ∷ []
 
 abbrev pub events : List Verb
 events =
-    (record { word = ascii "local"; count = 1; made = λ ns. Local (byte ns 0) })
-    ∷ (record { word = ascii "send"; count = 2; made = λ ns. Send (byte ns 0) (byte ns 1) })
-    ∷ (record { word = ascii "receive"; count = 2; made = λ ns. Receive (byte ns 0) (byte ns 1) })
-    ∷ (record { word = ascii "reset"; count = 1; made = λ ns. Reset (byte ns 0) })
+    (record { word = ascii "local"; count = 2; made = λ ns. wish (byte ns 1) (Local (byte ns 0)) })
+    ∷ (record { word = ascii "send"; count = 3; made = λ ns. wish (byte ns 2) (Send (byte ns 0) (byte ns 1)) })
+    ∷ (record { word = ascii "receive"; count = 3; made = λ ns. wish (byte ns 2) (Receive (byte ns 0) (byte ns 1)) })
+    ∷ (record { word = ascii "reset"; count = 2; made = λ ns. wish (byte ns 1) (Reset (byte ns 0)) })
     ∷ []
 
 unfoldable pub verbs : List Verb
@@ -95,11 +97,10 @@ parseOf l = choose verbs l
 
 abbrev pub callOf : Command → Option Call
 callOf (Start s) = some (start s)
-callOf (Local d) = some (on (Model.local d))
-callOf (Send d k) = some (on (Model.send d k))
-callOf (Receive d p) = some (on (Model.receive d p))
-callOf (Reset d) = some (on (Model.reset d))
-callOf (Keep d) = some (on (Model.keep d))
+callOf (Local d q) = some (on (Model.local d q))
+callOf (Send d k q) = some (on (Model.send d k q))
+callOf (Receive d p q) = some (on (Model.receive d p q))
+callOf (Reset d q) = some (on (Model.reset d q))
 callOf (Drop s) = some (on (Model.drop s))
 callOf (Discard p) = some (on (Model.discard p))
 callOf (Before s t) = some (on (Model.before s t))

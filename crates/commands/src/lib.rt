@@ -2,19 +2,22 @@
 ghost use mathlib.Core.Path.{_≡_};
 ghost use Prim.Native.Nat.{_+_, _*_, _-_, _≤_, _<_};
 ghost use mathlib.Core.List.{_++_};
+ghost use lib.Dec.{ltb};
 ghost use lib.ListN.{length};
+ghost use Rattle.tools.specs.Tests.{pick};
 ghost use Rattle.text.specs.Digits.{numberAt, numbersAt};
 ghost use Rattle.commands.specs.Lines.{shaped, setupFrom, questions, filings, events, choose, parseOf};
+ghost use Rattle.commands.specs.declared.Command.the-variants as Commands;
 use rules::Setup;
 
-// What a line asks for. The numbers are wide, so that 256 reaches the check that refuses it.
+// What a line asks for, an event last with whether its stamp is kept. The numbers are wide, so that 256 reaches the check that
+// refuses it.
 pub enum Command {
     Start(Setup),
-    Local(usize),
-    Send(usize, usize),
-    Receive(usize, usize),
-    Reset(usize),
-    Keep(usize),
+    Local(usize, bool),
+    Send(usize, usize, bool),
+    Receive(usize, usize, bool),
+    Reset(usize, bool),
     Drop(usize),
     Discard(usize),
     Before(usize, usize),
@@ -77,9 +80,7 @@ fn parse_questions(line: &[u8]) -> Command
 fn parse_filings(line: &[u8]) -> Command
     ensures { λ r. ⌜ r ≡ choose (filings ++ questions) (now (line .entry)) ⌝ }
 {
-    if is_line(line, b"keep", 1) {
-        Command::Keep(number(line, 0, 1))
-    } else if is_line(line, b"drop", 1) {
+    if is_line(line, b"drop", 1) {
         Command::Drop(number(line, 0, 1))
     } else if is_line(line, b"discard", 1) {
         Command::Discard(number(line, 0, 1))
@@ -88,24 +89,44 @@ fn parse_filings(line: &[u8]) -> Command
     }
 }
 
+// The command of an event's line by its last number, 1 for yes and 0 for no: any other makes a BadLine.
+fn wished(keep: usize, c: Command) -> Command
+    ensures { λ r. ⌜ r ≡ pick (ltb 1 keep) Commands.Bad c ⌝ }
+{
+    if 1 < keep {
+        return Command::Bad;
+    }
+    c
+}
+
 // The four events, then the filings.
 fn parse_events(line: &[u8]) -> Command
     ensures { λ r. ⌜ r ≡ choose (events ++ filings ++ questions) (now (line .entry)) ⌝ }
 {
-    if is_line(line, b"local", 1) {
-        Command::Local(number(line, 0, 1))
-    } else if is_line(line, b"send", 2) {
-        Command::Send(number(line, 0, 2), number(line, 1, 2))
-    } else if is_line(line, b"receive", 2) {
-        Command::Receive(number(line, 0, 2), number(line, 1, 2))
-    } else if is_line(line, b"reset", 1) {
-        Command::Reset(number(line, 0, 1))
+    if is_line(line, b"local", 2) {
+        let keep = number(line, 1, 2);
+        wished(keep, Command::Local(number(line, 0, 2), keep == 1))
+    } else if is_line(line, b"send", 3) {
+        let keep = number(line, 2, 3);
+        wished(
+            keep,
+            Command::Send(number(line, 0, 3), number(line, 1, 3), keep == 1),
+        )
+    } else if is_line(line, b"receive", 3) {
+        let keep = number(line, 2, 3);
+        wished(
+            keep,
+            Command::Receive(number(line, 0, 3), number(line, 1, 3), keep == 1),
+        )
+    } else if is_line(line, b"reset", 2) {
+        let keep = number(line, 1, 2);
+        wished(keep, Command::Reset(number(line, 0, 2), keep == 1))
     } else {
         parse_filings(line)
     }
 }
 
-// The command of a line: a line of any other shape is a BadLine.
+// The command of a line: any other line is a BadLine.
 pub fn parse(line: &[u8]) -> Command
     ensures { λ r. ⌜ r ≡ parseOf (now (line .entry)) ⌝ }
 {

@@ -8,6 +8,9 @@ use mathlib.Core.List.{List, [], _∷_}
 use borrow.Author.Tests.{ne-eqb, lt-ltb, le-ltb}
 use lib.Dec.{eqb, ltb}
 use lib.ListN.{length}
+use native.Mathlib.Omega.{arith}
+use Rattle.tools.specs.Tests.{pick}
+use Rattle.tools.specs.Lists.{listed}
 use Rattle.rules.specs.declared.Stamp.{Stamp}
 use Rattle.rules.specs.declared.Stamped.{Stamped}
 use Rattle.rules.specs.declared.Posted.{Posted}
@@ -15,11 +18,12 @@ use Rattle.rules.specs.declared.Posted.the-variants as Posts
 use Rattle.rules.specs.declared.Told.{Told}
 use Rattle.rules.specs.declared.Compared.{Compared}
 use Rattle.rules.specs.declared.Kept.{Kept}
-use Rattle.rules.specs.Model.{Value, nothing, slot, Answer, refusal, accepted}
-use Rattle.rules.specs.Replies.{rowOf, stampedSays, postedSays, keptSays, toldSays, comparedSays}
+use Rattle.rules.specs.declared.Kept.the-variants as Keeps
+use Rattle.rules.specs.Model.{Value, nothing, Answer, refusal, accepted}
+use Rattle.rules.specs.Replies.{rowOf, slotIn, stampedSays, postedSays, toldSays, comparedSays}
 use Rattle.book.specs.Stamps.{writeStamp, filled}
 use Rattle.parts.proofs.Lent.{filled-none}
-use Rattle.door.specs.Door.{byteIn, Lent, lent, byteTo, recordTo, short, orNoRoom, cramped, Fills, Gives}
+use Rattle.door.specs.Door.{one, Lent, lent, placeTo, slotTo, recordTo, short, orNoRoom, cramped, Fills, Gets, Gives, GivesByte}
 
 -- the number with NoRoom as one more reason
 pub room-lacks : (q : Bool) (n : ℕ) → (q && (eqb n 0 || ltb 15 n)) ≡ true → 15 ≡ cramped q (refusal n) .number
@@ -41,10 +45,6 @@ module _ (n : ℕ) (f : Value → List ℕ) (t : List ℕ) (ls : List Lent) wher
   pub fills : (l : List ℕ) (v : Value) → l ≡ filled t (f v) → Fills ls v → Fills (lent n f t l ∷ ls) v
   unfolding Fills
   fills l v e k = (e, k)
-
-  pub filled-by : (l : List ℕ) (v : Value) → Fills (lent n f t l ∷ ls) v → l ≡ filled t (f v)
-  unfolding Fills
-  filled-by l v k = k .0
 
   pub still : f nothing ≡ [] → Fills ls nothing → Fills (lent n f t t ∷ ls) nothing
   still e k = fills t nothing (sym (ap (filled t) e ∙ filled-none t)) k
@@ -69,64 +69,62 @@ module _ (ls : List Lent) (a : Answer) (r : ℕ) where
       go false = k
 
 -- one byte, in a buffer that has none and in one that has some
-pub byte-short : (t : List ℕ) (v : ℕ) → length t < 1 → Gives (accepted (slot v)) (byteTo t t ∷ []) 15
+pub byte-short : (t : List ℕ) (u : ℕ) → length t < 1 → GivesByte u t t 15
 unfolding orNoRoom
-byte-short t v l = no-room (byteTo t t ∷ []) _ 15 (lt-ltb (length t) 1 l) refl (search lending)
+byte-short t u l f v z e =
+    no-room (lent 1 f t t ∷ []) (accepted v) 15 (lt-ltb (length t) 1 l) refl (still 1 f t [] z (fills-none nothing))
 
-pub byte-given : (t : List ℕ) (v : ℕ) (l : List ℕ) → 1 ≤ length t → l ≡ filled t (v ∷ [])
-    → Gives (accepted (slot v)) (byteTo t l ∷ []) 0
-byte-given t v l m e = has-room (byteTo t l ∷ []) _ 0 (le-ltb (length t) 1 m) refl (search lending)
+pub byte-given : (t : List ℕ) (u : ℕ) (l : List ℕ) → 1 ≤ length t → l ≡ filled t (u ∷ []) → GivesByte u t l 0
+byte-given t u l m g f v z e =
+    has-room (lent 1 f t l ∷ []) (accepted v) 0 (le-ltb (length t) 1 m) refl (fills 1 f t [] l v (g ∙ ap (filled t) (sym e)) (fills-none v))
 
--- a value whose bytes f are one byte, given as a slot is
+-- a value whose bytes f are that one
 pub byte-as : (f : Value → List ℕ) → f nothing ≡ [] → (t l : List ℕ) (r : ℕ) (v : Value) (a : Answer) → a ≡ accepted v
-    → (u : ℕ) → u ∷ [] ≡ f v → Gives (accepted (slot u)) (byteTo t l ∷ []) r → Gives a (lent 1 f t l ∷ []) r
-byte-as f none t l r v a e u x g =
-    let q = short (byteTo t l ∷ []) in
-    let k = filled-by 1 byteIn t [] l _ (g .buffers) ∙ ap (filled t) (bytes q) in
-    rw e (record { number = g .number ∙ number q; buffers = search lending })
-  where
-    number : (q : Bool) → cramped q (accepted (slot u)) .number ≡ cramped q (accepted v) .number
-    number true = refl
-    number false = refl
-
-    bytes : (q : Bool) → byteIn (cramped q (accepted (slot u)) .value) ≡ f (cramped q (accepted v) .value)
-    bytes true = sym none
-    bytes false = x
+    → (u : ℕ) → u ∷ [] ≡ f v → GivesByte u t l r → Gives a (lent 1 f t l ∷ []) r
+byte-as f none t l r v a e u x g = subst (λ (b : Answer). Gives b (lent 1 f t l ∷ []) r) (sym e) (g f v none (sym x))
 
 -- the record of a stamp
 abbrev recordOf : ℕ → Stamp → List ℕ
 recordOf D x = writeStamp D (record { owner = x .owner; row = rowOf (x .row) })
 
--- the stamp of a refused event, and of an accepted one with the record w
-module _ (x : Stamped) (D : ℕ) (t : List ℕ) (fit : 20 ≤ length t) where
-  pub stamp-refused : (x .number ≡ 0 → ⊥) → Gives (stampedSays x) (recordTo D t t ∷ []) (x .number)
+-- an event that is refused, and an accepted one with the record w
+module _ (x : Stamped) (D : ℕ) (t u : List ℕ) where
+  pub stamp-refused : (x .number ≡ 0 → ⊥)
+      → Gets (stampedSays x) (recordTo D t t ∷ slotTo true u u ∷ []) (x .number)
   unfolding stampedSays
-  stamp-refused ne =
-      let e = ne-eqb (x .number) 0 ne in
-      has-room _ _ _ (le-ltb (length t) 20 fit) (rw e) (rw e (search lending))
+  stamp-refused ne = let e = ne-eqb (x .number) 0 ne in record { number = rw e; buffers = rw e (search lending) }
 
-  pub stamp-given : x .number ≡ 0 → (w l : List ℕ) → w ≡ recordOf D (x .stamp) → l ≡ filled t w
-      → Gives (stampedSays x) (recordTo D t l ∷ []) 0
+  pub stamp-given : x .number ≡ 0 → (w l k : List ℕ) → w ≡ recordOf D (x .stamp) → l ≡ filled t w
+      → k ≡ filled u (listed one (slotIn (x .kept)))
+      → Gets (stampedSays x) (recordTo D t l ∷ slotTo true u k ∷ []) 0
   unfolding stampedSays
-  stamp-given e w l h g =
-      let k = g ∙ ap (filled t) h in
-      has-room _ _ _ (le-ltb (length t) 20 fit) (rw e) (rw e (search lending))
+  stamp-given e w l k h g o = let f = g ∙ ap (filled t) h in record { number = rw e; buffers = rw e (search lending) }
 
--- the stamp and the place of a refused send, and of an accepted one
-module _ (m : Posted) (x : Stamp) (D : ℕ) (t u : List ℕ) (fit : (20 ≤ length t) × (1 ≤ length u)) where
-  both-fit : (ltb (length u) 1 || ltb (length t) 20) ≡ false
-  both-fit = rw (le-ltb (length u) 1 (fit .1), le-ltb (length t) 20 (fit .0))
+-- a send that is refused, and an accepted one
+module _ (m : Posted) (x : Stamp) (κ : Kept) (D : ℕ) (t p u : List ℕ) where
+  pub sent-refused : (n : ℕ) → m ≡ Posts.Refused n
+      → Gets (postedSays m x κ) (recordTo D t t ∷ placeTo p p ∷ slotTo true u u ∷ []) n
+  sent-refused n e = rw e (record { number = refl; buffers = search lending })
 
-  pub sent-refused : (n : ℕ) → m ≡ Posts.Refused n → Gives (postedSays m x) (recordTo D t t ∷ byteTo u u ∷ []) n
-  sent-refused n e = rw e (has-room _ _ n both-fit refl (search lending))
+  pub sent-given : (i : ℕ) → m ≡ Posts.At i → (w l o k : List ℕ) → w ≡ recordOf D x → l ≡ filled t w → o ≡ filled p (i ∷ [])
+      → k ≡ filled u (listed one (slotIn κ))
+      → Gets (postedSays m x κ) (recordTo D t l ∷ placeTo p o ∷ slotTo true u k ∷ []) 0
+  sent-given i e w l o k h g y z = let f = g ∙ ap (filled t) h in rw e (record { number = refl; buffers = search lending })
 
-  pub sent-given : (p : ℕ) → m ≡ Posts.At p → (r : ℕ) (w l k : List ℕ) → w ≡ recordOf D x → l ≡ filled t w
-      → Gives (accepted (slot p)) (byteTo u k ∷ []) r → Gives (postedSays m x) (recordTo D t l ∷ byteTo u k ∷ []) r
-  sent-given p e r w l k h g o =
-      let q = le-ltb (length u) 1 (fit .1) in
-      let f = g ∙ ap (filled t) h in
-      let y = filled-by 1 byteIn u [] k _ (rw q at (o .buffers)) in
-      rw e (has-room _ _ r both-fit (rw q at (o .number)) (search lending))
+-- a slot, by its case
+pub no-slot : (κ : Kept) (u : List ℕ) → κ ≡ Keeps.No → u ≡ filled u (listed one (slotIn κ))
+no-slot κ u e = sym (ap (λ (κ : Kept). filled u (listed one (slotIn κ))) e ∙ filled-none u)
+
+pub in-slot : (κ : Kept) (s : ℕ) (u l : List ℕ) → κ ≡ Keeps.In s → l ≡ filled u (s ∷ []) → l ≡ filled u (listed one (slotIn κ))
+in-slot κ s u l e g = g ∙ sym (ap (λ (κ : Kept). filled u (listed one (slotIn κ))) e)
+
+pub slot-room : (κ : Kept) (s : ℕ) (u : List ℕ) → κ ≡ Keeps.In s → length (listed one (slotIn κ)) ≤ length u → 1 ≤ length u
+slot-room κ s u e l = rw e at l
+
+-- a slot that is kept needs a byte
+pub short-slot : (q : Bool) (n : ℕ) → (q && ltb n 1) ≡ ltb n (pick q 1 0)
+short-slot true n = refl
+short-slot false n = sym (le-ltb n 0 (omega arith))
 
 -- what an answer says, by its case
 pub told-as : (t u : Told) → t ≡ u → toldSays t ≡ toldSays u
@@ -135,14 +133,11 @@ told-as t u e = ap toldSays e
 pub compared-as : (t u : Compared) → t ≡ u → comparedSays t ≡ comparedSays u
 compared-as t u e = ap comparedSays e
 
-pub kept-as : (t u : Kept) → t ≡ u → keptSays t ≡ keptSays u
-kept-as t u e = ap keptSays e
-
 pub one-byte : (u v : ℕ) → u ≡ v → u ∷ [] ≡ v ∷ []
 one-byte u v e = ap (λ (u : ℕ). u ∷ []) e
 
-pub ruleset cases = (told-as, compared-as, kept-as, one-byte)
+pub ruleset cases = (told-as, compared-as, one-byte)
 
-pub ruleset stamps = (stamp-refused, stamp-given, sent-refused, sent-given)
+pub ruleset stamps = (stamp-refused, stamp-given, sent-refused, sent-given, no-slot, in-slot, slot-room)
 
 pub ruleset gave = (cases, stamps, room-lacks, room-enough, refused, byte-short, byte-given, byte-as, lending)

@@ -3,24 +3,30 @@
 --   setupBy D P L M A m n   the setup of the seven numbers
 --   relationByte r   the byte of a relation
 --   one n            the byte n
---   byteIn v         the one byte of the place, slot, yes or no, or relation in a value
+--   wished n         whether a caller who gives the number n wishes to keep the stamp: 0 is no, any other yes
+--   byteIn v         the one byte of the yes or no, or relation in a value
+--   placeIn v, slotByte v   the one byte of the place, of the slot in a value; none where it has none
 --   whichByte w      the byte of one of two records, or of neither
 --   whichIn v        the byte of the newest of two records that a value relates; none where it relates none
 --   Lent, lent n f t t′   a buffer that the caller lends for a value: it must have n bytes, f tells those of the value, and the
 --                    whole buffer is t before the call and t′ afterwards
 --   byteTo t t′, whichTo t t′, rowTo t t′   the buffer is lent for a byte, for the newest of two records, for sixteen row bytes
+--   placeTo t t′     the buffer is lent for a place
+--   slotTo q t t′    the buffer is lent for the slot of an event: it must have a byte where the event is to be kept, q
 --   recordTo D t t′  the buffer is lent for a stamp record with the number D of desks
 --   stampTo s t t′   the buffer is lent for a stamp record with the D of the book s
 --   short ls         one of the lent buffers ls is too short
 --   orNoRoom n       NoRoom or the number n, whichever is smaller; 0 is no reason
 --   cramped q a      the answer a to a call, with NoRoom as one more reason where q holds: a lent buffer is too short
 --   Fills ls v       each of the lent buffers ls has its bytes of the value v in front afterwards, and the rest as it was
---   Gives a ls n     what a caller gets who lends ls and is answered a: the number n, and every byte of ls
+--   Gets a ls n      what a caller gets who is answered a: the number n, and every byte of the lent buffers ls
+--   Gives a ls n     the same, with NoRoom as one more reason where one of ls is too short
+--   GivesByte u t t′ n   the number n, and the one byte u of whatever value, in the buffer that is t before and t′ afterwards
 --   Makes c s s′ ls n   what a caller gets who lends ls to the call c on the book s: the same, and every byte s′ of the book,
 --                    which is as it was where one of ls is too short
 use Prim.Native.Nat.{ℕ}
 use mathlib.Core.Path.{_≡_}
-use mathlib.Core.Bool.{Bool, false, _||_}
+use mathlib.Core.Bool.{Bool, false, not, _||_}
 use mathlib.Core.List.{List, [], _∷_, _++_}
 use lib.Dec.{ltb, eqb}
 use lib.ListN.{length}
@@ -30,7 +36,7 @@ use Rattle.rules.specs.declared.Setup.{Setup}
 use Rattle.rules.specs.declared.Relation.{Relation}
 use Rattle.rules.specs.declared.Relation.the-variants.{Before, After, Same, Concurrent, Crossed}
 use Rattle.rules.specs.Numbers.{NoRoom, number}
-use Rattle.rules.specs.Model.{Value, Answer, refusal}
+use Rattle.rules.specs.Model.{Value, nothing, Answer, refusal, accepted}
 use Rattle.rules.specs.Calls.{Call}
 use Rattle.rules.specs.Labels.{Which, First, Second, Neither, newer}
 use Rattle.book.specs.Layout.{recordSize, rowSize}
@@ -52,10 +58,17 @@ relationByte Crossed = 5
 abbrev pub one : ℕ → List ℕ
 one n = n ∷ []
 
+abbrev pub wished : ℕ → Bool
+wished n = not (eqb n 0)
+
 abbrev pub byteIn : Value → List ℕ
-byteIn v =
-    listed one (v .place) ++ listed one (v .slot) ++ listed (λ t. one (pick t 1 0)) (v .verdict)
-    ++ listed (λ r. one (relationByte r)) (v .relation)
+byteIn v = listed (λ t. one (pick t 1 0)) (v .verdict) ++ listed (λ r. one (relationByte r)) (v .relation)
+
+abbrev pub placeIn : Value → List ℕ
+placeIn v = listed one (v .place)
+
+abbrev pub slotByte : Value → List ℕ
+slotByte v = listed one (v .slot)
 
 abbrev pub whichByte : Which → ℕ
 whichByte First = 1
@@ -73,6 +86,12 @@ byteTo = lent 1 byteIn
 
 abbrev pub whichTo : List ℕ → List ℕ → Lent
 whichTo = lent 1 whichIn
+
+abbrev pub placeTo : List ℕ → List ℕ → Lent
+placeTo = lent 1 placeIn
+
+abbrev pub slotTo : Bool → List ℕ → List ℕ → Lent
+slotTo q = lent (pick q 1 0) slotByte
 
 abbrev pub rowTo : List ℕ → List ℕ → Lent
 rowTo = lent rowSize partIn
@@ -97,9 +116,15 @@ unfoldable pub Fills : List Lent → Value → Type 0
 Fills [] v = Unit {0}
 Fills (lent n f t t′ ∷ ls) v = (t′ ≡ filled t (f v)) × Fills ls v
 
-pub record Gives (a : Answer) (ls : List Lent) (n : ℕ) : Type 0 where
-  pub number : n ≡ cramped (short ls) a .number
-  pub buffers : Fills ls (cramped (short ls) a .value)
+pub record Gets (a : Answer) (ls : List Lent) (n : ℕ) : Type 0 where
+  pub number : n ≡ a .number
+  pub buffers : Fills ls (a .value)
+
+abbrev pub Gives : Answer → List Lent → ℕ → Type 0
+Gives a ls n = Gets (cramped (short ls) a) ls n
+
+abbrev pub GivesByte : ℕ → List ℕ → List ℕ → ℕ → Type 0
+GivesByte u t t′ n = (f : Value → List ℕ) (v : Value) → f nothing ≡ [] → f v ≡ one u → Gives (accepted v) (lent 1 f t t′ ∷ []) n
 
 pub record Makes (c : Call) (s s′ : List ℕ) (ls : List Lent) (n : ℕ) : Type 0 where
   pub answer : Gives (answerTo s c) ls n

@@ -1,14 +1,20 @@
 // Answers for a caller in C: the call's number, and the bytes of a value in front of a lent buffer. A buffer too short for it is
 // NoRoom, and then nothing changes.
 ghost use mathlib.Core.Path.{_≡_};
+ghost use mathlib.Core.Bool.{true};
 ghost use mathlib.Core.List.{[], _∷_};
 ghost use Prim.Native.Nat.{_≤_};
 ghost use lib.ListN.{length};
-ghost use Rattle.rules.specs.Model.{slot, refusal, accepted};
+ghost use lib.Dec.{ltb};
+ghost use Rattle.tools.specs.Tests.{pick};
+ghost use Rattle.tools.specs.Lists.{listed};
+ghost use Rattle.rules.specs.Model.{refusal};
 ghost use Rattle.rules.specs.Labels.{newer};
 ghost use Rattle.book.specs.Layout.{recordSize};
-ghost use Rattle.rules.specs.Replies.{stampedSays, postedSays, keptSays, toldSays, comparedSays};
-ghost use Rattle.door.specs.Door.{setupBy, relationByte, whichByte, byteTo, whichTo, recordTo, cramped, Gives};
+ghost use Rattle.book.specs.Stamps.{filled};
+ghost use Rattle.rules.specs.Replies.{slotIn, stampedSays, postedSays, toldSays, comparedSays};
+ghost use Rattle.door.specs.Door.{setupBy, relationByte, whichByte, one, byteTo, placeTo, slotTo, whichTo, recordTo};
+ghost use Rattle.door.specs.Door.{cramped, Gets, Gives, GivesByte};
 use rules::Compared;
 use rules::Kept;
 use rules::Posted;
@@ -28,9 +34,16 @@ pub fn number_by(short: bool, number: u8) -> u8
     number
 }
 
+// Whether a buffer is too short for the slot of an event: one that is not kept needs no room.
+pub fn slot_short(keep: bool, room: usize) -> bool
+    ensures { λ r. ⌜ r ≡ ltb room (pick keep 1 0) ⌝ }
+{
+    keep & (room < 1)
+}
+
 // The one byte of an accepted call's value.
 fn give_byte(target: &mut [u8], value: u8) -> u8
-    ensures { λ r. ⌜ Gives (accepted (slot value)) (byteTo (now (target .entry)) (now (target .exit)) ∷ []) r ⌝ }
+    ensures { λ r. ⌜ GivesByte value (now (target .entry)) (now (target .exit)) r ⌝ }
 {
     if target.len() < 1 {
         return rules::NO_ROOM;
@@ -93,42 +106,57 @@ pub fn give_newest(target: &mut [u8], compared: Compared) -> u8
     }
 }
 
-pub fn give_slot(target: &mut [u8], kept: Kept) -> u8
-    ensures { λ r. ⌜ Gives (keptSays kept) (byteTo (now (target .entry)) (now (target .exit)) ∷ []) r ⌝ }
+// The slot of an event that is kept, and nothing of one that is not.
+fn give_slot(target: &mut [u8], kept: Kept)
+    requires { ⌜ length (listed one (slotIn kept)) ≤ length (now target) ⌝ }
+    ensures { λ _. ⌜ now (target .exit) ≡ filled (now (target .entry)) (listed one (slotIn kept)) ⌝ }
 {
     match kept {
-        Kept::Slot(s) => give_byte(target, s),
-        Kept::Refused(n) => number_by(target.len() < 1, n),
+        Kept::No => {}
+        Kept::In(s) => {
+            let one = [s];
+            parts::lend(target, &one);
+        }
     }
 }
 
-// The stamp of an accepted event as a record.
-pub fn give_stamp(target: &mut [u8], desks: u8, stamped: Stamped) -> u8
-    requires { ⌜ recordSize ≤ length (now target) ⌝ }
-    ensures { λ r. ⌜ Gives (stampedSays stamped) (recordTo desks (now (target .entry)) (now (target .exit)) ∷ []) r ⌝ }
+// The stamp of an accepted event as a record, and its slot where it is kept. All buffers have room.
+pub fn give_stamp(stamp: &mut [u8], slot: &mut [u8], desks: u8, stamped: Stamped) -> u8
+    requires { ⌜ recordSize ≤ length (now stamp) ⌝ }
+    requires { ⌜ length (listed one (slotIn (stamped .kept))) ≤ length (now slot) ⌝ }
+    ensures { λ r. ⌜ Gets (stampedSays stamped)
+        (recordTo desks (now (stamp .entry)) (now (stamp .exit)) ∷ slotTo true (now (slot .entry)) (now (slot .exit)) ∷ []) r ⌝ }
 {
     if stamped.number != rules::DONE {
         return stamped.number;
     }
-    let stamp = stamped.stamp;
-    let bytes = labels::record_of(desks, stamp);
-    parts::lend(target, &bytes);
+    let own = stamped.stamp;
+    let kept = stamped.kept;
+    let bytes = labels::record_of(desks, own);
+    parts::lend(stamp, &bytes);
+    give_slot(slot, kept);
     rules::DONE
 }
 
-// The stamp of an accepted send as a record, and its place.
-pub fn give_sent(stamp: &mut [u8], place: &mut [u8], desks: u8, sent: Sent) -> u8
+// The stamp of an accepted send as a record, its place, and its slot where it is kept. All buffers have room.
+pub fn give_sent(stamp: &mut [u8], place: &mut [u8], slot: &mut [u8], desks: u8, sent: Sent) -> u8
     requires { ⌜ (recordSize ≤ length (now stamp)) × (1 ≤ length (now place)) ⌝ }
-    ensures { λ r. ⌜ Gives (postedSays (sent .place) (sent .stamp))
-        (recordTo desks (now (stamp .entry)) (now (stamp .exit)) ∷ byteTo (now (place .entry)) (now (place .exit)) ∷ []) r ⌝ }
+    requires { ⌜ length (listed one (slotIn (sent .kept))) ≤ length (now slot) ⌝ }
+    ensures { λ r. ⌜ Gets (postedSays (sent .place) (sent .stamp) (sent .kept))
+        (recordTo desks (now (stamp .entry)) (now (stamp .exit)) ∷ placeTo (now (place .entry)) (now (place .exit))
+        ∷ slotTo true (now (slot .entry)) (now (slot .exit)) ∷ []) r ⌝ }
 {
     let posted = sent.place;
     let own = sent.stamp;
+    let kept = sent.kept;
     match posted {
         Posted::At(p) => {
-            let bytes = labels::record_of(desks, own);
-            parts::lend(stamp, &bytes);
-            give_byte(place, p)
+            let record = labels::record_of(desks, own);
+            let at = [p];
+            parts::lend(stamp, &record);
+            parts::lend(place, &at);
+            give_slot(slot, kept);
+            rules::DONE
         }
         Posted::Refused(n) => n,
     }

@@ -1,26 +1,35 @@
 -- What a call through the C interface answers, and leaves of the book and of the buffers lent to it. Each is proved by
 -- `search called` from the contracts of what it calls, whatever their names.
 -- Assumes nothing.
-use Prim.Native.Nat.{ℕ, _<_, _≤_}
+use Prim.Native.Nat.{ℕ, zero, suc, _<_, _≤_}
 use mathlib.Core.Path.{_≡_, refl, sym, ap, _∙_, subst}
-use mathlib.Core.Bool.{true, false, _||_}
+use mathlib.Core.Bool.{Bool, true, false, _||_}
 use mathlib.Core.List.{List, [], _∷_}
 use native.Mathlib.Omega.{arith}
 use borrow.Author.Tests.{lt-ltb, le-ltb, ltb-false}
 use lib.Dec.{ltb, lit≤}
 use lib.ListN.{length}
-use Rattle.tools.specs.Lists.{byte}
+use Rattle.tools.specs.Tests.{pick}
+use Rattle.tools.specs.Lists.{byte, listed}
 use Rattle.tools.proofs.Tests.{or-false-l, or-false-r}
 use Rattle.tools.proofs.Lists.{length-tab}
 use Rattle.rules.specs.declared.Setup.{Setup}
-use Rattle.rules.specs.Model.{Act, show, nothing, Answer, refusal, done, askTells}
+use Rattle.rules.specs.declared.Stamp.{Stamp}
+use Rattle.rules.specs.declared.Stamped.{Stamped}
+use Rattle.rules.specs.declared.Kept.{Kept}
+use Rattle.rules.specs.declared.Posted.{Posted}
+use Rattle.rules.specs.declared.Posted.the-variants as Posts
+use Rattle.rules.specs.Model.{Tables, Act, show, nothing, Answer, refusal, slotFor, done, askTells}
 use Rattle.rules.specs.Calls.{Call, start, on}
-use Rattle.rules.specs.Replies.{rowBytes}
+use Rattle.rules.specs.Replies.{rowBytes, slotIn, stampedSays, postedSays, Beside, BesidePost}
 use Rattle.book.specs.Stamps.{filled}
 use Rattle.book.specs.Answers.{answerTo, bookAfter, partIn, partOf, beforeOf, compareOf}
-use Rattle.book.specs.Numbers.{numberOf}
-use Rattle.book.proofs.Numbers.{answer-number, accepted-answer, refused-answer}
-use Rattle.door.specs.Door.{Lent, rowTo, recordTo, stampTo, short, orNoRoom, cramped, Fills, Gives, Makes}
+use Rattle.book.specs.Numbers.{tablesOf, numberOf}
+use Rattle.book.proofs.Numbers.{doneOn, answer-number, accepted-answer, refused-answer}
+use Rattle.refusals.specs.declared.Grant.{Grant}
+use Rattle.refusals.specs.Grants.{grantOf}
+use Rattle.refusals.proofs.Grants.{grant-number}
+use Rattle.door.specs.Door.{one, Lent, placeTo, slotTo, rowTo, recordTo, stampTo, short, orNoRoom, cramped, Fills, Gets, Gives, Makes}
 use Rattle.door.proofs.Given.{fills-none, lending, no-room, has-room}
 
 -- a setup of the same numbers
@@ -45,11 +54,6 @@ answered a b ls r e g = rw e at g
 pub bare : (a : Answer) (r : ℕ) → refusal r ≡ a → Gives a [] r
 bare a r e = record { number = ap (λ (a : Answer). a .number) e; buffers = fills-none _ }
 
--- a stamp record with the D that was read in the book
-pub stamped : (s t l : List ℕ) (ls : List Lent) (a : Answer) (D r : ℕ) → D ≡ byte s 2 → Gives a (recordTo D t l ∷ ls) r
-    → Gives a (stampTo s t l ∷ ls) r
-stamped s t l ls a D r d g = subst (λ (D : ℕ). Gives a (recordTo D t l ∷ ls) r) d g
-
 -- the number alone, since one of the buffers is too short; or the call's own refusal, though all are long enough
 module _ (c : Act) (s : List ℕ) (ls : List Lent) (n : ℕ) (m : n ≡ numberOf s c) where
   pub number-only : short ls ≡ true → (r : ℕ) → r ≡ cramped true (refusal n) .number → Fills ls nothing
@@ -57,7 +61,8 @@ module _ (c : Act) (s : List ℕ) (ls : List Lent) (n : ℕ) (m : n ≡ numberOf
   number-only q r h k = no-room ls _ r q (h ∙ ap orNoRoom (m ∙ sym (answer-number s c))) k
 
   pub refused-all : short ls ≡ false → (n ≡ 0 → ⊥) → Fills ls nothing → Gives (answerTo s (on c)) ls n
-  refused-all q ne k = rw (refused-answer s c n m ne) at (has-room ls (refusal n) n q refl k)
+  refused-all q ne k =
+      subst (λ (a : Answer). Gives a ls n) (refused-answer s c n m ne) (has-room ls (refusal n) n q refl k)
 
 -- the book as it was, since one of the buffers is too short; or as the call leaves it
 module _ (c : Call) (s : List ℕ) (ls : List Lent) (r : ℕ) (g : Gives (answerTo s c) ls r) where
@@ -67,6 +72,83 @@ module _ (c : Call) (s : List ℕ) (ls : List Lent) (r : ℕ) (g : Gives (answer
   pub made : short ls ≡ false → (b : List ℕ) → b ≡ bookAfter s c → Makes c s b ls r
   made q b h = record { answer = g; book = rw q h }
 
+-- the slot of an event, which is there where it is kept, fits into a buffer that has room for it
+slot-fits : (k : Kept) (t : Tables) (q : Bool) → slotIn k ≡ slotFor t q → (n : ℕ) → ltb n (pick q 1 0) ≡ false
+    → length (listed one (slotIn k)) ≤ n
+slot-fits k t true e n l = rw e (ltb-false n 1 l)
+slot-fits k t false e n l = rw e (omega arith)
+
+-- an event with the wish q, the book s and the buffers t and u for its stamp and slot; o tells whether the slot's is too short
+module _ (c : Act) (s : List ℕ) (q : Bool) (t u : List ℕ) (o : Bool) (eo : o ≡ ltb (length u) (pick q 1 0)) where
+  -- the answer to one that is made, and its slot
+  module _ (v : doneOn s c .answer .value .slot ≡ slotFor (tablesOf s) q) where
+    slot-said : (a : Answer) → a ≡ answerTo s (on c) → a .number ≡ 0 → a .value .slot ≡ slotFor (tablesOf s) q
+    slot-said a e z =
+        let n = ap (λ (a : Answer). a .number) (sym e) ∙ z in
+        ap (λ (a : Answer). a .value .slot) (e ∙ sym (accepted-answer s c (sym (answer-number s c) ∙ n))) ∙ v
+
+    pub stamped-fits : (x : Stamped) → stampedSays x ≡ answerTo s (on c) → Beside (x .number) (x .stamp) (x .kept) → o ≡ false
+        → length (listed one (slotIn (x .kept))) ≤ length u
+    unfolding stampedSays
+    stamped-fits x e b l = go (x .number) (x .stamp) (x .kept) b e
+      where
+        go : (m : ℕ) (y : Stamp) (k : Kept) → Beside m y k → stampedSays (record { number = m; stamp = y; kept = k }) ≡ answerTo s (on c)
+            → length (listed one (slotIn k)) ≤ length u
+        go zero y k b e = slot-fits k (tablesOf s) q (slot-said _ e refl) (length u) (sym eo ∙ l)
+        go (suc m) y k b e = rw (b .1) (omega arith)
+
+    pub sent-fits : (p : Posted) (y : Stamp) (k : Kept) → postedSays p y k ≡ answerTo s (on c) → BesidePost p y k → o ≡ false
+        → length (listed one (slotIn k)) ≤ length u
+    sent-fits (Posts.At p) y k e b l = slot-fits k (tablesOf s) q (slot-said _ e refl) (length u) (sym eo ∙ l)
+    sent-fits (Posts.Refused m) y k e b l = rw (b .1) (omega arith)
+
+  -- the test of the lengths, told by the slot's own
+  tested : (a b z : Bool) → ((o || a) || b) ≡ z → ((ltb (length u) (pick q 1 0) || a) || b) ≡ z
+  tested a b z h = ap (λ (o : Bool). (o || a) || b) (sym eo) ∙ h
+
+  tested-two : (b z : Bool) → (o || b) ≡ z → (ltb (length u) (pick q 1 0) || b) ≡ z
+  tested-two b z h = ap (λ (o : Bool). o || b) (sym eo) ∙ h
+
+  -- one of the buffers is too short: the number alone, by what the event is granted
+  module _ (g : Grant) (e : g ≡ grantOf s c q) (r : ℕ) (h : r ≡ cramped true (refusal (g .number)) .number) where
+    pub event-short : (o || ltb (length t) 20) ≡ true → Makes (on c) s s (stampTo s t t ∷ slotTo q u u ∷ []) r
+    event-short l =
+        let z = tested-two (ltb (length t) 20) true l in
+        left-alone (on c) s _ r (number-only c s _ (g .number) (grant-number s c q g e) z r h (search lending)) z
+
+    pub send-short : (p : List ℕ) → ((o || ltb (length p) 1) || ltb (length t) 20) ≡ true
+        → Makes (on c) s s (stampTo s t t ∷ placeTo p p ∷ slotTo q u u ∷ []) r
+    send-short p l =
+        let z = tested (ltb (length p) 1) (ltb (length t) 20) true l in
+        left-alone (on c) s _ r (number-only c s _ (g .number) (grant-number s c q g e) z r h (search lending)) z
+
+  -- all have room: the event is made
+  module _ (a : Answer) (e : a ≡ answerTo s (on c)) (b : List ℕ) (eb : b ≡ bookAfter s (on c)) (D : ℕ) (d : D ≡ byte s 2) (l k : List ℕ)
+      (r : ℕ) where
+    pub event-makes : (o || ltb (length t) 20) ≡ false → Gets a (recordTo D t l ∷ slotTo true u k ∷ []) r
+        → Makes (on c) s b (stampTo s t l ∷ slotTo q u k ∷ []) r
+    unfolding Fills
+    event-makes y g =
+        let z = tested-two (ltb (length t) 20) false y in
+        record {
+          answer = rw z (subst (λ (a : Answer). Gets a (stampTo s t l ∷ slotTo q u k ∷ []) r) e
+              (subst (λ (D : ℕ). Gets a (recordTo D t l ∷ slotTo q u k ∷ []) r) d (record { number = g .number; buffers = g .buffers })));
+          book = rw z eb;
+        }
+
+    pub send-makes : (p m : List ℕ) → ((o || ltb (length p) 1) || ltb (length t) 20) ≡ false
+        → Gets a (recordTo D t l ∷ placeTo p m ∷ slotTo true u k ∷ []) r
+        → Makes (on c) s b (stampTo s t l ∷ placeTo p m ∷ slotTo q u k ∷ []) r
+    unfolding Fills
+    send-makes p m y g =
+        let z = tested (ltb (length p) 1) (ltb (length t) 20) false y in
+        record {
+          answer = rw z (subst (λ (a : Answer). Gets a (stampTo s t l ∷ placeTo p m ∷ slotTo q u k ∷ []) r) e
+              (subst (λ (D : ℕ). Gets a (recordTo D t l ∷ placeTo p m ∷ slotTo q u k ∷ []) r) d
+              (record { number = g .number; buffers = g .buffers })));
+          book = rw z eb;
+        }
+
 -- a buffer's length, by a test of it: less than is needed, and no less
 pub too-few : (a b n : ℕ) → a < b → b ≤ n → ltb a n ≡ true
 too-few a b n l m = lt-ltb a n (omega arith)
@@ -74,8 +156,11 @@ too-few a b n l m = lt-ltb a n (omega arith)
 pub enough : (a b n : ℕ) → b ≤ a → n ≤ b → ltb a n ≡ false
 enough a b n l m = le-ltb a n (omega arith)
 
-pub both-enough : (a m b n : ℕ) → (ltb a m || ltb b n) ≡ false → (n ≤ b) × (m ≤ a)
-both-enough a m b n e = (ltb-false b n (or-false-r (ltb a m) (ltb b n) e), ltb-false a m (or-false-l (ltb a m) (ltb b n) e))
+pub first-enough : (t : Bool) (b n : ℕ) → (t || ltb b n) ≡ false → t ≡ false
+first-enough t b n e = or-false-l t (ltb b n) e
+
+pub last-enough : (t : Bool) (b n : ℕ) → (t || ltb b n) ≡ false → n ≤ b
+last-enough t b n e = ltb-false b n (or-false-r t (ltb b n) e)
 
 -- show: sixteen bytes where it is accepted
 module _ (s : List ℕ) (i n : ℕ) (h : n ≡ numberOf s (show i)) (z : n ≡ 0) where
@@ -94,8 +179,8 @@ module _ (s : List ℕ) (i n : ℕ) (h : n ≡ numberOf s (show i)) (z : n ≡ 0
 
 pub ruleset setups = (before-by, compare-by, answer-by, book-by)
 
-pub ruleset rooms = (too-few, enough, both-enough, lit≤)
+pub ruleset rooms = (too-few, enough, lit≤)
 
 pub ruleset shows = (part-fits, shown)
 
-pub ruleset called = (setups, rooms, shows, answered, bare, stamped, made, number-only, left-alone, refused-all, lending)
+pub ruleset called = (setups, rooms, shows, answered, bare, made, number-only, left-alone, refused-all, lending)

@@ -7,7 +7,7 @@ ghost use Rattle.rules.specs.Model;
 ghost use Rattle.rules.specs.Calls;
 ghost use Rattle.rules.specs.Calls.{on};
 ghost use Rattle.book.specs.Answers.{answerTo, targetAfter, beforeOf, compareOf};
-ghost use Rattle.door.specs.Door.{setupBy, byteTo, whichTo, rowTo, stampTo, Gives, Makes};
+ghost use Rattle.door.specs.Door.{setupBy, wished, byteTo, placeTo, slotTo, whichTo, rowTo, stampTo, Gives, Makes};
 
 // Start writes a fresh book: rows zero, no seat started, all places free.
 #[no_mangle]
@@ -30,17 +30,27 @@ pub extern "C" fn gulambitok_start(
     )
 }
 
-// Local: the desk's own clock grows by 1.
+// Local: the desk's own clock grows by 1. Where keep is not 0 its stamp is kept, as that of each event.
 #[no_mangle]
-pub extern "C" fn gulambitok_local(book: &mut [u8], desk: usize, stamp: &mut [u8]) -> u8
-    ensures { λ r. ⌜ Makes (on (Model.local desk)) (now (book .entry)) (now (book .exit))
-        (stampTo (now (book .entry)) (now (stamp .entry)) (now (stamp .exit)) ∷ []) r ⌝ }
+pub extern "C" fn gulambitok_local(
+    book: &mut [u8],
+    desk: usize,
+    keep: usize,
+    stamp: &mut [u8],
+    slot: &mut [u8],
+) -> u8
+    ensures { λ r. ⌜ Makes (on (Model.local desk (wished keep))) (now (book .entry)) (now (book .exit))
+        (stampTo (now (book .entry)) (now (stamp .entry)) (now (stamp .exit))
+        ∷ slotTo (wished keep) (now (slot .entry)) (now (slot .exit)) ∷ []) r ⌝ }
 {
-    if stamp.len() < parts::RECORD_BYTES {
-        return door::number_by(true, refusals::local_number(&book[..], desk));
+    let wish = keep != 0;
+    if door::slot_short(wish, slot.len()) | (stamp.len() < parts::RECORD_BYTES) {
+        let grant = refusals::local_grant(&book[..], desk, wish);
+        return door::number_by(true, grant.number);
     }
     let desks = portal::desks_in(&book[..]);
-    door::give_stamp(stamp, desks, portal::local(book, desk))
+    let stamped = portal::local(book, desk, wish);
+    door::give_stamp(stamp, slot, desks, stamped)
 }
 
 // Receive at a desk from a place; any waiting mail may be taken, in any order.
@@ -49,29 +59,45 @@ pub extern "C" fn gulambitok_receive(
     book: &mut [u8],
     desk: usize,
     place: usize,
+    keep: usize,
     stamp: &mut [u8],
+    slot: &mut [u8],
 ) -> u8
-    ensures { λ r. ⌜ Makes (on (Model.receive desk place)) (now (book .entry)) (now (book .exit))
-        (stampTo (now (book .entry)) (now (stamp .entry)) (now (stamp .exit)) ∷ []) r ⌝ }
+    ensures { λ r. ⌜ Makes (on (Model.receive desk place (wished keep))) (now (book .entry)) (now (book .exit))
+        (stampTo (now (book .entry)) (now (stamp .entry)) (now (stamp .exit))
+        ∷ slotTo (wished keep) (now (slot .entry)) (now (slot .exit)) ∷ []) r ⌝ }
 {
-    if stamp.len() < parts::RECORD_BYTES {
-        return door::number_by(true, refusals::receive_number(&book[..], desk, place));
+    let wish = keep != 0;
+    if door::slot_short(wish, slot.len()) | (stamp.len() < parts::RECORD_BYTES) {
+        let grant = refusals::receive_grant(&book[..], desk, place, wish);
+        return door::number_by(true, grant.number);
     }
     let desks = portal::desks_in(&book[..]);
-    door::give_stamp(stamp, desks, portal::receive(book, desk, place))
+    let stamped = portal::receive(book, desk, place, wish);
+    door::give_stamp(stamp, slot, desks, stamped)
 }
 
 // Reset: the desk's own phase grows by 1 modulo P and its own clock becomes 0.
 #[no_mangle]
-pub extern "C" fn gulambitok_reset(book: &mut [u8], desk: usize, stamp: &mut [u8]) -> u8
-    ensures { λ r. ⌜ Makes (on (Model.reset desk)) (now (book .entry)) (now (book .exit))
-        (stampTo (now (book .entry)) (now (stamp .entry)) (now (stamp .exit)) ∷ []) r ⌝ }
+pub extern "C" fn gulambitok_reset(
+    book: &mut [u8],
+    desk: usize,
+    keep: usize,
+    stamp: &mut [u8],
+    slot: &mut [u8],
+) -> u8
+    ensures { λ r. ⌜ Makes (on (Model.reset desk (wished keep))) (now (book .entry)) (now (book .exit))
+        (stampTo (now (book .entry)) (now (stamp .entry)) (now (stamp .exit))
+        ∷ slotTo (wished keep) (now (slot .entry)) (now (slot .exit)) ∷ []) r ⌝ }
 {
-    if stamp.len() < parts::RECORD_BYTES {
-        return door::number_by(true, refusals::reset_number(&book[..], desk));
+    let wish = keep != 0;
+    if door::slot_short(wish, slot.len()) | (stamp.len() < parts::RECORD_BYTES) {
+        let grant = refusals::reset_grant(&book[..], desk, wish);
+        return door::number_by(true, grant.number);
     }
     let desks = portal::desks_in(&book[..]);
-    door::give_stamp(stamp, desks, portal::reset(book, desk))
+    let stamped = portal::reset(book, desk, wish);
+    door::give_stamp(stamp, slot, desks, stamped)
 }
 
 // Send from a desk to another: as local, then the row goes into the lowest free mail place.
@@ -80,30 +106,25 @@ pub extern "C" fn gulambitok_send(
     book: &mut [u8],
     desk: usize,
     to: usize,
+    keep: usize,
     stamp: &mut [u8],
     place: &mut [u8],
+    slot: &mut [u8],
 ) -> u8
-    ensures { λ r. ⌜ Makes (on (Model.send desk to)) (now (book .entry)) (now (book .exit))
-        (stampTo (now (book .entry)) (now (stamp .entry)) (now (stamp .exit))
-        ∷ byteTo (now (place .entry)) (now (place .exit)) ∷ []) r ⌝ }
+    ensures { λ r. ⌜ Makes (on (Model.send desk to (wished keep))) (now (book .entry)) (now (book .exit))
+        (stampTo (now (book .entry)) (now (stamp .entry)) (now (stamp .exit)) ∷ placeTo (now (place .entry)) (now (place .exit))
+        ∷ slotTo (wished keep) (now (slot .entry)) (now (slot .exit)) ∷ []) r ⌝ }
 {
-    if (place.len() < 1) | (stamp.len() < parts::RECORD_BYTES) {
-        return door::number_by(true, refusals::send_number(&book[..], desk, to));
+    let wish = keep != 0;
+    if (door::slot_short(wish, slot.len()) | (place.len() < 1))
+        | (stamp.len() < parts::RECORD_BYTES)
+    {
+        let grant = refusals::send_grant(&book[..], desk, to, wish);
+        return door::number_by(true, grant.number);
     }
     let desks = portal::desks_in(&book[..]);
-    door::give_sent(stamp, place, desks, portal::send(book, desk, to))
-}
-
-// Keep copies the desk's present row to the lowest free slot.
-#[no_mangle]
-pub extern "C" fn gulambitok_keep(book: &mut [u8], desk: usize, slot: &mut [u8]) -> u8
-    ensures { λ r. ⌜ Makes (on (Model.keep desk)) (now (book .entry)) (now (book .exit))
-        (byteTo (now (slot .entry)) (now (slot .exit)) ∷ []) r ⌝ }
-{
-    if slot.len() < 1 {
-        return door::number_by(true, refusals::keep_number(&book[..], desk));
-    }
-    door::give_slot(slot, portal::keep(book, desk))
+    let sent = portal::send(book, desk, to, wish);
+    door::give_sent(stamp, place, slot, desks, sent)
 }
 
 // Drop frees a slot.

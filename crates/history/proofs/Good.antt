@@ -15,17 +15,18 @@ use Rattle.rules.specs.declared.Setup.{Setup}
 use Rattle.tools.specs.Tests.{pick}
 use Rattle.tools.specs.Reasons.{ifDone}
 use Rattle.tools.specs.Tables.{put, Each}
-use Rattle.rules.specs.Model.{Row, Seat, Held, Tables, Act, local, reset, keep, drop, discard, send, receive, ask}
-use Rattle.rules.specs.Model.{step, done, why, fresh, zeros, grown, merged, turned, seated, freeMail, freeSlot, rowIn, used}
+use Rattle.rules.specs.Model.{Row, Seat, Held, Tables, Act, local, reset, send, receive, drop, discard, ask}
+use Rattle.rules.specs.Model.{step, done, why, fresh, zeros, grown, merged, turned, seated, freeMail, slotFor, rowIn, used}
 use Rattle.rules.specs.Model.{own, tick, turn, settle}
 use Rattle.history.specs.History.{Kind, cause, isReset, Local, Send, Reset, Receive, Log, History, desk-link, one, more, logged, noted, none-yet}
 use Rattle.history.specs.History.{adds}
-use Rattle.tools.proofs.Tables.{put-all, put-both, put-same, put-other, Each-map, none-some}
+use Rattle.tools.proofs.Tables.{put-all, put-both, put-at-both, put-same, put-other, Each-map, Each-all, none-some}
 use Rattle.history.proofs.Keys.{key, later-key, tick-key, turn-key}
 use Rattle.rules.specs.Model.{phases}
 use Rattle.history.specs.Lags.{Past}
+use Rattle.history.proofs.Past.{left}
 use Rattle.history.proofs.Bounded.{Bounded, bounded-done, fresh-bounded}
-use Rattle.rules.proofs.Accepted.{no-local, no-send, no-receive, no-keep}
+use Rattle.rules.proofs.Accepted.{no-local, no-send, no-receive}
 use Rattle.history.specs.Vector.{Upto}
 use Rattle.history.proofs.Causal.{Origin, seen, Causal, Fits, old-desk, old-row, causal-next, below}
 
@@ -33,16 +34,17 @@ use Rattle.history.proofs.Causal.{Origin, seen, Causal, Fits, old-desk,
 abbrev pub Behind : Log → ℕ → Held → Type 0
 Behind h x w = (x < h .count) × (h .desk x ≡ w .by) × (h .row x ≡ w .row)
 
--- event x is the last of a started desk; a desk that has not started has no event
-abbrev pub SeatOf : Log → ℕ → ℕ → Bool → Row → Type 0
-SeatOf h j x true ρ = (x < h .count) × (h .desk x ≡ j) × (h .row x ≡ ρ) × ((e : ℕ) → e < h .count → h .desk e ≡ j → e ≤ x)
-SeatOf h j x false ρ = (ρ ≡ zeros) × ((e : ℕ) → e < h .count → h .desk e ≡ j → ⊥)
+-- a started desk has a last event, whose row is the seat's; a desk that has not started has no event
+abbrev pub SeatOf : Log → ℕ → Bool → Row → Type 0
+SeatOf h j true ρ =
+    (x : ℕ) × (x < h .count) × (h .desk x ≡ j) × (h .row x ≡ ρ) × ((e : ℕ) → e < h .count → h .desk e ≡ j → e ≤ x)
+SeatOf h j false ρ = (ρ ≡ zeros) × ((e : ℕ) → e < h .count → h .desk e ≡ j → ⊥)
 
 pub record Good (X : Setup) (b : Tables) (h : History) : Type 0 where
   pub bounded : Bounded X b
   pub causal : Causal X (h .log)
   pub known : (f : ℕ) → f < h .log .count → (k : ℕ) → key X (h .log .row f k) ≤ key X (own b k)
-  pub seats : (j : ℕ) → SeatOf (h .log) j (h .last j) (b .seat j .started) (b .seat j .row)
+  pub seats : (j : ℕ) → SeatOf (h .log) j (b .seat j .started) (b .seat j .row)
   pub mail : (p : ℕ) → Each (Behind (h .log) (h .mailed p)) (b .mail p)
   pub shelf : (s : ℕ) → Each (Behind (h .log) (h .kept s)) (b .shelf s)
 
@@ -50,8 +52,8 @@ module _ (X : Setup) (ok : Permitted X) (b : Tables) (h : History) (g : Good X b
   pub seat-clock : (j k : ℕ) → b .seat j .row k .clock < X .clocks
   seat-clock j k = go (b .seat j .started) (g .seats j)
     where
-      go : (t : Bool) → SeatOf (h .log) j (h .last j) t (b .seat j .row) → b .seat j .row k .clock < X .clocks
-      go true s = rw (s .2) at (g .causal .clocks (h .last j) (s .0) k)
+      go : (t : Bool) → SeatOf (h .log) j t (b .seat j .row) → b .seat j .row k .clock < X .clocks
+      go true s = rw (s .3) at (g .causal .clocks (s .0) (s .1) k)
       go false s = rw (s .0) (let z = ok .clocks in omega arith)
 
   -- what ticks is no reset
@@ -61,8 +63,8 @@ module _ (X : Setup) (ok : Permitted X) (b : Tables) (h : History) (g : Good X b
   seat-known : (j k : ℕ) → key X (b .seat j .row k) ≤ key X (own b k)
   seat-known j k = go (b .seat j .started) (g .seats j)
     where
-      go : (t : Bool) → SeatOf (h .log) j (h .last j) t (b .seat j .row) → key X (b .seat j .row k) ≤ key X (own b k)
-      go true s = rw (s .2) at (g .known (h .last j) (s .0) k)
+      go : (t : Bool) → SeatOf (h .log) j t (b .seat j .row) → key X (b .seat j .row k) ≤ key X (own b k)
+      go true s = rw (s .3) at (g .known (s .0) (s .1) k)
       go false s =
           let z : key X (b .seat j .row k) ≡ key X (zeros k) = ap (λ (ρ : Row). key X (ρ k)) (s .0) in omega arith
 
@@ -70,15 +72,9 @@ module _ (X : Setup) (ok : Permitted X) (b : Tables) (h : History) (g : Good X b
       → (x : ℕ) × (x < h .log .count) × Upto (h .log) e x × (h .log .desk x ≡ j)
   seat-heard j e a l = go (b .seat j .started) (g .seats j)
     where
-      go : (t : Bool) → SeatOf (h .log) j (h .last j) t (b .seat j .row)
+      go : (t : Bool) → SeatOf (h .log) j t (b .seat j .row)
           → (x : ℕ) × (x < h .log .count) × Upto (h .log) e x × (h .log .desk x ≡ j)
-      go true s = (
-        h .last j,
-        s .0,
-        g .causal .complete e (h .last j) a (s .0)
-            (rw (s .2) l),
-        s .1,
-      )
+      go true s = (s .0, s .1, g .causal .complete e (s .0) a (s .1) (rw (s .3) l), s .2)
       go false s =
           let z : key X (b .seat j .row (h .log .desk e)) ≡ key X (zeros (h .log .desk e)) = ap (λ (ρ : Row). key X (ρ (h .log .desk e)))
           (s .0) in
@@ -93,19 +89,19 @@ module _ (X : Setup) (ok : Permitted X) (b : Tables) (h : History) (g : Good X b
       on y lt ly qy (inl z) = let d = ap (h .log .desk) z in inr (one (desk-link {e = e} {f = y} (omega arith) ly cc))
       on y lt ly qy (inr z) = inr (more z (desk-link lt ly cc))
 
-      go : (t : Bool) → SeatOf (h .log) j (h .last j) t (b .seat j .row) → seen X (h .log) e e ≤ key X (b .seat j .row (h .log .desk e))
-      go true s = rw (s .2) at (g .causal .sound e (h .last j) a (s .0) (to (ℕ-discrete x (h .last j))))
+      go : (t : Bool) → SeatOf (h .log) j t (b .seat j .row) → seen X (h .log) e e ≤ key X (b .seat j .row (h .log .desk e))
+      go true s = rw (s .3) at (g .causal .sound e (s .0) a (s .1) (to (ℕ-discrete x (s .0))))
         where
-          to : Dec (x ≡ h .last j) → Upto (h .log) e (h .last j)
+          to : Dec (x ≡ s .0) → Upto (h .log) e (s .0)
           to (yes z) = subst (λ y. Upto (h .log) e y) z u
-          to (no z) = on (h .last j) (let w = s .3 x l q in omega arith) (s .0) (s .1) u
+          to (no z) = on (s .0) (let w = s .4 x l q in omega arith) (s .1) (s .2) u
       go false s = absurd (s .1 x l q)
 
   seat-from : (j k : ℕ) → Origin (h .log) k (b .seat j .row k)
   seat-from j k = go (b .seat j .started) (g .seats j)
     where
-      go : (t : Bool) → SeatOf (h .log) j (h .last j) t (b .seat j .row) → Origin (h .log) k (b .seat j .row k)
-      go true s = subst (λ (ρ : Row). Origin (h .log) k (ρ k)) (s .2) (g .causal .origin (h .last j) (s .0) k)
+      go : (t : Bool) → SeatOf (h .log) j t (b .seat j .row) → Origin (h .log) k (b .seat j .row k)
+      go true s = subst (λ (ρ : Row). Origin (h .log) k (ρ k)) (s .3) (g .causal .origin (s .0) (s .1) k)
       go false s = inl (ap (λ (ρ : Row). ρ k) (s .0))
 
   -- an event that hears of nothing: r is j's row with another own pair
@@ -232,27 +228,32 @@ module _ (X : Setup) (ok : Permitted X) (b : Tables) (h : History) (g : Good X b
           old-row X (h .log) (g .causal) j w r fit x (s .0) ∙ s .2,
         )) o
 
-    seat-up : (i x : ℕ) (t : Bool) (ρ : Row) → (i ≡ j → ⊥) → SeatOf (h .log) i x t ρ → SeatOf (logged (h .log) j w r) i x t ρ
-    seat-up i x true ρ ne s = (
-      let z = s .0 in omega arith,
-      old-desk X (h .log) (g .causal) j w r fit x (s .0) ∙ s .1,
-      old-row X (h .log) (g .causal) j w r fit x (s .0) ∙ s .2,
-      λ e l. below (λ e. (logged (h .log) j w r) .desk e ≡ i → e ≤ x) (h .log .count) e l
-          (λ l q. s .3 e l (sym (old-desk X (h .log) (g .causal) j w r fit e l) ∙ q))
+    -- the event itself is behind what holds its row
+    behind-itself : (to : ℕ) → Behind (logged (h .log) j w r) (h .log .count) (record { by = j; to = to; row = r })
+    behind-itself to = (omega arith, put-same (h .log .desk) (h .log .count) j, put-same (h .log .row) (h .log .count) r)
+
+    seat-up : (i : ℕ) (t : Bool) (ρ : Row) → (i ≡ j → ⊥) → SeatOf (h .log) i t ρ → SeatOf (logged (h .log) j w r) i t ρ
+    seat-up i true ρ ne s = (
+      s .0,
+      let z = s .1 in omega arith,
+      old-desk X (h .log) (g .causal) j w r fit (s .0) (s .1) ∙ s .2,
+      old-row X (h .log) (g .causal) j w r fit (s .0) (s .1) ∙ s .3,
+      λ e l. below (λ e. (logged (h .log) j w r) .desk e ≡ i → e ≤ s .0) (h .log .count) e l
+          (λ l q. s .4 e l (sym (old-desk X (h .log) (g .causal) j w r fit e l) ∙ q))
           (λ q. absurd (ne (sym q ∙ put-same (h .log .desk) (h .log .count) j))),
     )
-    seat-up i x false ρ ne s = (
+    seat-up i false ρ ne s = (
       s .0,
       λ e l. below (λ e. (logged (h .log) j w r) .desk e ≡ i → ⊥) (h .log .count) e l
           (λ l q. s .1 e l (sym (old-desk X (h .log) (g .causal) j w r fit e l) ∙ q))
           (λ q. ne (sym q ∙ put-same (h .log .desk) (h .log .count) j)),
     )
 
-    good-event : (mail : ℕ → Option Held) (mailed : ℕ → ℕ)
-        → Bounded X (record { seat = seated b j r; mail = mail; shelf = b .shelf })
+    good-event : (o : Option ℕ) (mail : ℕ → Option Held) (mailed : ℕ → ℕ)
+        → Bounded X (left b j r o mail)
         → ((p : ℕ) → Each (Behind (logged (h .log) j w r) (mailed p)) (mail p))
-        → Good X (record { seat = seated b j r; mail = mail; shelf = b .shelf }) (noted h j w r mailed)
-    good-event mail mailed bd posts =
+        → Good X (left b j r o mail) (noted h j w r o mailed)
+    good-event o mail mailed bd posts =
         record {
           bounded = bd;
           causal = causal-next X (h .log) (g .causal) j w r fit;
@@ -264,12 +265,13 @@ module _ (X : Setup) (ok : Permitted X) (b : Tables) (h : History) (g : Good X b
               (λ k. rw (put-same (h .log .row) (h .log .count) r)
               (put-all (λ k (s : Seat). key X (r k) ≤ key X (s .row k)) (b .seat) j (record { started = true; row = r })
               (omega arith) less k));
-          seats = put-both (λ i (s : Seat) x. SeatOf (logged (h .log) j w r) i x (s .started) (s .row)) (b .seat) (h .last) j
-              (record { started = true; row = r }) (h .log .count)
-              (omega arith, put-same (h .log .desk) (h .log .count) j, put-same (h .log .row) (h .log .count) r, λ e l q. omega arith)
-              (λ i ne. seat-up i (h .last i) (b .seat i .started) (b .seat i .row) ne (g .seats i));
+          seats = put-all (λ i (s : Seat). SeatOf (logged (h .log) j w r) i (s .started) (s .row)) (b .seat) j
+              (record { started = true; row = r })
+              (let here = behind-itself 0 in (h .log .count, here .0, here .1, here .2, λ e l q. omega arith))
+              (λ i ne. seat-up i (b .seat i .started) (b .seat i .row) ne (g .seats i));
           mail = posts;
-          shelf = λ s. behind-up (h .kept s) (b .shelf s) (g .shelf s);
+          shelf = put-at-both (λ s (m : Option Held) x. Each (Behind (logged (h .log) j w r) x) m) (b .shelf) (h .kept) o _ _
+              (Each-all (λ s. behind-itself 0) o) (λ s. behind-up (h .kept s) (b .shelf s) (g .shelf s));
         }
 
   mail-of : (p : ℕ) → used (b .mail p) ≡ true → (h .mailed p < h .log .count) × (h .log .row (h .mailed p) ≡ rowIn (b .mail p))
@@ -280,56 +282,36 @@ module _ (X : Setup) (ok : Permitted X) (b : Tables) (h : History) (g : Good X b
       go none n u = absurd (mathlib.Core.Bool.false≢true u)
       go (some m) n u = (n .0, n .2)
 
-  seat-event : (j : ℕ) → b .seat j .started ≡ true
-      → (h .last j < h .log .count) × (h .log .desk (h .last j) ≡ j) × (h .log .row (h .last j) ≡ b .seat j .row)
-  seat-event j u = go (b .seat j .started) (g .seats j) u
-    where
-      go : (t : Bool) → SeatOf (h .log) j (h .last j) t (b .seat j .row) → t ≡ true
-          → (h .last j < h .log .count) × (h .log .desk (h .last j) ≡ j) × (h .log .row (h .last j) ≡ b .seat j .row)
-      go true s u = (s .0, s .1, s .2)
-      go false s u = absurd (mathlib.Core.Bool.false≢true u)
-
   good-done : (c : Act) → why line X b c ≡ 0 → Bounded X ((done line X b c) .tables) → Good X ((done line X b c) .tables) (adds h b c)
   unfolding done adds
-  good-done (local j) e bd =
-      let n = no-local line X b j e in
+  good-done (local j q) e bd =
+      let n = no-local line X b j q e in
       let fit = plain Local refl j (tick (own b j)) (ticks j) (tick-key X (own b j)) (n .1) in
-      good-event j Local (grown b j) fit (plain-known j (tick (own b j))) (b .mail) (h .mailed) bd
+      good-event j Local (grown b j) fit (plain-known j (tick (own b j))) (slotFor b q) (b .mail) (h .mailed) bd
       (λ p. behind-up j Local (grown b j) fit (plain-known j (tick (own b j))) (h .mailed p) (b .mail p) (g .mail p))
-  good-done (send j k) e bd =
-      let n = no-send line X b j k e in
+  good-done (send j k q) e bd =
+      let n = no-send line X b j k q e in
       let fit = plain Send refl j (tick (own b j)) (ticks j) (tick-key X (own b j)) (n .1) in
-      good-event j Send (grown b j) fit (plain-known j (tick (own b j))) _ _ bd
+      good-event j Send (grown b j) fit (plain-known j (tick (own b j))) (slotFor b q) _ _ bd
       (put-both (λ p (o : Option Held) x. Each (Behind (logged (h .log) j Send (grown b j)) x) o) (b .mail) (h .mailed) (freeMail b)
       (some record { by = j; to = k; row = grown b j }) (h .log .count)
-      (omega arith, put-same (h .log .desk) (h .log .count) j, put-same (h .log .row) (h .log .count) (grown b j))
+      (behind-itself j Send (grown b j) fit (plain-known j (tick (own b j))) k)
       (λ p ne. behind-up j Send (grown b j) fit (plain-known j (tick (own b j))) (h .mailed p) (b .mail p) (g .mail p)))
-  good-done (receive j p) e bd =
-      let n = no-receive line X b j p e in
+  good-done (receive j p q) e bd =
+      let n = no-receive line X b j p q e in
       let m = mail-of p (n .1) in
       let past = g .bounded .past .mail p in
       let fit = merging j (h .mailed p) (rowIn (b .mail p)) (m .0) (m .1) past (n .2) in
       let less = merged-known j (h .mailed p) (rowIn (b .mail p)) (m .0) (m .1) past in
-      good-event j (Receive (h .mailed p)) (merged line b j (rowIn (b .mail p))) fit less (put (b .mail) p none) (h .mailed) bd
-      (put-all (λ q (o : Option Held).
-      Each (Behind (logged (h .log) j (Receive (h .mailed p)) (merged line b j (rowIn (b .mail p)))) (h .mailed q)) o) (b .mail) p none tt
-      (λ q ne. behind-up j (Receive (h .mailed p)) (merged line b j (rowIn (b .mail p))) fit less (h .mailed q) (b .mail q) (g .mail q)))
-  good-done (reset j) e bd =
+      good-event j (Receive (h .mailed p)) (merged line b j (rowIn (b .mail p))) fit less (slotFor b q) (put (b .mail) p none) (h .mailed) bd
+      (put-all (λ t (o : Option Held).
+      Each (Behind (logged (h .log) j (Receive (h .mailed p)) (merged line b j (rowIn (b .mail p)))) (h .mailed t)) o) (b .mail) p none tt
+      (λ t ne. behind-up j (Receive (h .mailed p)) (merged line b j (rowIn (b .mail p))) fit less (h .mailed t) (b .mail t) (g .mail t)))
+  good-done (reset j q) e bd =
       let l = ok .clocks in
       let fit = plain Reset refl j (turn line (own b j)) (eq-eqb 0 0 refl) (turn-key X (own b j) (seat-clock j j)) (omega arith) in
-      good-event j Reset (turned line b j) fit (plain-known j (turn line (own b j))) (b .mail) (h .mailed) bd
+      good-event j Reset (turned line b j) fit (plain-known j (turn line (own b j))) (slotFor b q) (b .mail) (h .mailed) bd
       (λ p. behind-up j Reset (turned line b j) fit (plain-known j (turn line (own b j))) (h .mailed p) (b .mail p) (g .mail p))
-  good-done (keep j) e bd =
-      let n = no-keep line X b j e in
-      record {
-        bounded = bd;
-        causal = g .causal;
-        known = g .known;
-        seats = g .seats;
-        mail = g .mail;
-        shelf = put-both (λ s (o : Option Held) x. Each (Behind (h .log) x) o) (b .shelf) (h .kept) (freeSlot b)
-            (some record { by = j; to = 0; row = b .seat j .row }) (h .last j) (seat-event j (n .1)) (λ s ne. g .shelf s);
-      }
   good-done (drop s) e bd =
       record {
         bounded = bd;

@@ -9,10 +9,10 @@ use lib.Dec.{eqb}
 use Rattle.ring.specs.Phases.{Phases, Pair, isLater, later}
 use Rattle.rules.specs.declared.Setup.{Setup}
 use Rattle.tools.specs.Tests.{pick}
-use Rattle.tools.specs.Tables.{put}
-use Rattle.rules.specs.Model.{Row, Seat, Held, Tables, Question, askBefore, askCompare, askShow, askWrite, Act, local, reset, keep, drop, discard, send, receive, ask}
-use Rattle.rules.specs.Model.{Value, nothing, stamp, sent, slot, shows, accepted, step, done, askReasons, reasons, askTells, why, filing, telling}
-use Rattle.rules.specs.Model.{grown, merged, turned, event, freeMail, freeSlot, rowIn, byIn, toIn, used, own, lags, tick, turn}
+use Rattle.tools.specs.Tables.{put, putAt}
+use Rattle.rules.specs.Model.{Row, Seat, Held, Tables, Question, askBefore, askCompare, askShow, askWrite, Act, local, reset, send, receive, drop, discard, ask}
+use Rattle.rules.specs.Model.{stamp, made, shows, accepted, step, done, askReasons, reasons, askTells, why, filing, telling}
+use Rattle.rules.specs.Model.{grown, merged, turned, event, freeMail, slotFor, rowIn, byIn, toIn, used, own, lags, tick, turn}
 use Rattle.rules.specs.Model.{settle, gapHeld, near}
 use Rattle.history.specs.Round.{mapPair, mapRow, mapSeat, mapHeld, mapTables, mapValue, mapResult}
 use Rattle.tools.specs.Tables.{Each}
@@ -80,30 +80,41 @@ module _ (Z Y : Phases) (φ : ℕ → ℕ → ℕ) (X : Setup) (b : Tables) (w :
 
   why-map : (c : Act) → why Z X (mapTables φ b) c ≡ why Y X b c
   unfolding reasons
-  why-map (local j) = refl
-  why-map (send j k) = simp used-map
-  why-map (receive j p) = simp (used-map, to-map)
-  why-map (reset j) =
+  why-map (local j q) = simp used-map
+  why-map (send j k q) = simp used-map
+  why-map (receive j p q) = simp (used-map, to-map)
+  why-map (reset j q) =
       let p = any-cong (X .desks) (λ s. not (eqb s j) && eqb (Z .lag (φ j (phases b j)) (φ j (b .seat s .row j .phase))) (X .seatLag))
       (λ s. not (eqb s j) && eqb (Y .lag (phases b j) (b .seat s .row j .phase)) (X .seatLag))
       (λ s l. ap (λ x. not (eqb s j) && eqb x (X .seatLag)) (w .seats s j l)) in
-      let q = any-cong 32 (λ p. lags Z (mapTables φ b) j (2 * X .seatLag) (mapHeld φ (b .mail p)))
+      let n = any-cong 32 (λ p. lags Z (mapTables φ b) j (2 * X .seatLag) (mapHeld φ (b .mail p)))
       (λ p. lags Y b j (2 * X .seatLag) (b .mail p)) (λ p l. lag-held j (2 * X .seatLag) (b .mail p) (w .mail p)) in
       let r = any-cong 32 (λ p. lags Z (mapTables φ b) j (X .shelfLag) (mapHeld φ (b .shelf p)))
       (λ p. lags Y b j (X .shelfLag) (b .shelf p)) (λ p l. lag-held j (X .shelfLag) (b .shelf p) (w .shelf p)) in
-      rw (p, q, r)
-  why-map (keep j) = simp used-map
+      rw (p, n, r) (simp used-map)
   why-map (drop s) = simp used-map
   why-map (discard p) = simp used-map
   why-map (ask q) = ask-why q
 
-  event-map : (j : ℕ) (r r′ : Row) (m m′ : ℕ → Option Held) (v v′ : Value)
-      → r ≡ mapRow φ r′ → m ≡ (λ p. mapHeld φ (m′ p)) → v ≡ mapValue φ v′
-      → event (mapTables φ b) j r m v ≡ mapResult φ (event b j r′ m′ v′)
-  event-map j r r′ m m′ v v′ er em ev =
+  -- a place or slot that is changed, where there is one
+  put-at-held : (f : ℕ → Option Held) (o : Option ℕ) (v : Option Held)
+      → putAt (λ p. mapHeld φ (f p)) o (mapHeld φ v) ≡ (λ p. mapHeld φ (putAt f o v p))
+  put-at-held f o v = fun-ext (go o)
+    where
+      go : (o : Option ℕ) (p : ℕ) → putAt (λ p. mapHeld φ (f p)) o (mapHeld φ v) p ≡ mapHeld φ (putAt f o v p)
+      go none p = refl
+      go (some k) p = sym (pick-ap (mapHeld φ) (eqb p k) v (f p))
+
+  slot-for : (q : Bool) → slotFor (mapTables φ b) q ≡ slotFor b q
+  slot-for q = simp used-map
+
+  event-map : (j : ℕ) (r r′ : Row) (q : Bool) (p p′ : Option ℕ) (m m′ : ℕ → Option Held)
+      → r ≡ mapRow φ r′ → p ≡ p′ → m ≡ (λ p. mapHeld φ (m′ p))
+      → event (mapTables φ b) j r q p m ≡ mapResult φ (event b j r′ q p′ m′)
+  event-map j r r′ q p p′ m m′ er ep em =
       λ i. record {
-        answer = accepted (ev i);
-        tables = record { seat = seats i; mail = em i; shelf = λ s. mapHeld φ (b .shelf s) };
+        answer = accepted (made (ep i) j (er i) (slot-for q i));
+        tables = record { seat = seats i; mail = em i; shelf = shelf i };
       }
     where
       seats : _≡_ {A = ℕ → Seat} (λ s. pick (eqb s j) (record { started = true; row = r }) (mapSeat φ (b .seat s)))
@@ -112,9 +123,12 @@ module _ (Z Y : Phases) (φ : ℕ → ℕ → ℕ) (X : Setup) (b : Tables) (w :
           fun-ext (λ s. ap (λ (r : Row). pick {A = Seat} (eqb s j) (record { started = true; row = r }) (mapSeat φ (b .seat s))) er
           ∙ sym (pick-ap (mapSeat φ) (eqb s j) (record { started = true; row = r′ }) (b .seat s)))
 
-  put-held : (f : ℕ → Option Held) (k : ℕ) (v : Option Held)
-      → put (λ p. mapHeld φ (f p)) k (mapHeld φ v) ≡ (λ p. mapHeld φ (put f k v p))
-  put-held f k v = fun-ext (λ p. sym (pick-ap (mapHeld φ) (eqb p k) v (f p)))
+      shelf : _≡_ {A = ℕ → Option Held}
+          (putAt (λ s. mapHeld φ (b .shelf s)) (slotFor (mapTables φ b) q) (some record { by = j; to = 0; row = r }))
+          (λ s. mapHeld φ (putAt (b .shelf) (slotFor b q) (some record { by = j; to = 0; row = r′ }) s))
+      shelf =
+          (λ i. putAt (λ s. mapHeld φ (b .shelf s)) (slot-for q i) (some record { by = j; to = 0; row = er i }))
+          ∙ put-at-held (b .shelf) (slotFor b q) (some record { by = j; to = 0; row = r′ })
 
   -- rows that agree but for one column, where they agree too
   put-row : (r r′ : Row) (j : ℕ) (q q′ : Pair) → q ≡ mapPair (φ j) q′ → ((k : ℕ) → r k ≡ mapPair (φ k) (r′ k))
@@ -152,9 +166,6 @@ module _ (Z Y : Phases) (φ : ℕ → ℕ → ℕ) (X : Setup) (b : Tables) (w :
   free-mail : freeMail (mapTables φ b) ≡ freeMail b
   free-mail = simp used-map
 
-  free-slot : freeSlot (mapTables φ b) ≡ freeSlot b
-  free-slot = simp used-map
-
   tells-map : (q : Question) → why Y X b (ask q) ≡ 0 → askTells Z X (mapTables φ b) q ≡ mapValue φ (askTells Y X b q)
   unfolding askTells
   tells-map (askBefore s t) e = simp (gap-held s t, by-map, clock-map)
@@ -165,35 +176,20 @@ module _ (Z Y : Phases) (φ : ℕ → ℕ → ℕ) (X : Setup) (b : Tables) (w :
 
   done-map : (c : Act) → why Y X b c ≡ 0 → done Z X (mapTables φ b) c ≡ mapResult φ (done Y X b c)
   unfolding done
-  done-map (local j) e =
-      event-map j _ (grown b j) _ (b .mail) _ (stamp j (grown b j)) (grown-map j) refl (ap (stamp j) (grown-map j))
-  done-map (send j k) e =
-      event-map j _ (grown b j) _ (put (b .mail) (freeMail b) (some record { by = j; to = k; row = grown b j })) _
-      (sent (freeMail b) j (grown b j)) (grown-map j)
+  done-map (local j q) e = event-map j _ (grown b j) q _ none _ (b .mail) (grown-map j) refl refl
+  done-map (send j k q) e =
+      event-map j _ (grown b j) q _ (some (freeMail b)) _
+      (put (b .mail) (freeMail b) (some record { by = j; to = k; row = grown b j })) (grown-map j) (ap some free-mail)
       ((λ i. put (λ p. mapHeld φ (b .mail p)) (free-mail i) (some record { by = j; to = k; row = grown-map j i }))
-      ∙ put-held (b .mail) (freeMail b) (some record { by = j; to = k; row = grown b j }))
-      (λ i. sent (free-mail i) j (grown-map j i))
-  done-map (receive j p) e =
-      let n = no-receive Y X b j p e in
-      let q = ap (merged Z (mapTables φ b) j) (row-map φ (b .mail p) (n .1))
-      ∙ merged-map j (n .0) (rowIn (b .mail p)) (mail-keeps p (n .1)) in
-      event-map j _ (merged Y b j (rowIn (b .mail p))) _ (put (b .mail) p none) _ (stamp j (merged Y b j (rowIn (b .mail p))))
-      q (put-held (b .mail) p none) (ap (stamp j) q)
-  done-map (reset j) e =
-      event-map j _ (turned Y b j) _ (b .mail) _ (stamp j (turned Y b j)) (turned-map j) refl (ap (stamp j) (turned-map j))
-  done-map (keep j) e =
-      λ i. filing (mapTables φ b) ((mapTables φ b) .mail) (kept i) (slot (free-slot i))
-    where
-      kept : _≡_ {A = ℕ → Option Held}
-          (put (λ s. mapHeld φ (b .shelf s)) (freeSlot (mapTables φ b)) (some record { by = j; to = 0; row = mapRow φ (b .seat j .row) }))
-          (λ s. mapHeld φ (put (b .shelf) (freeSlot b) (some record { by = j; to = 0; row = b .seat j .row }) s))
-      kept =
-          (λ i. put (λ s. mapHeld φ (b .shelf s)) (free-slot i) (some record { by = j; to = 0; row = mapRow φ (b .seat j .row) }))
-          ∙ put-held (b .shelf) (freeSlot b) (some record { by = j; to = 0; row = b .seat j .row })
-  done-map (drop s) e =
-      λ i. filing (mapTables φ b) ((mapTables φ b) .mail) (put-held (b .shelf) s none i) nothing
-  done-map (discard p) e =
-      λ i. filing (mapTables φ b) (put-held (b .mail) p none i) ((mapTables φ b) .shelf) nothing
+      ∙ put-at-held (b .mail) (some (freeMail b)) (some record { by = j; to = k; row = grown b j }))
+  done-map (receive j p q) e =
+      let n = no-receive Y X b j p q e in
+      event-map j _ (merged Y b j (rowIn (b .mail p))) q _ none _ (put (b .mail) p none)
+      (ap (merged Z (mapTables φ b) j) (row-map φ (b .mail p) (n .1))
+      ∙ merged-map j (n .0) (rowIn (b .mail p)) (mail-keeps p (n .1))) refl (put-at-held (b .mail) (some p) none)
+  done-map (reset j q) e = event-map j _ (turned Y b j) q _ none _ (b .mail) (turned-map j) refl refl
+  done-map (drop s) e = λ i. filing (mapTables φ b) ((mapTables φ b) .mail) (put-at-held (b .shelf) (some s) none i)
+  done-map (discard p) e = λ i. filing (mapTables φ b) (put-at-held (b .mail) (some p) none i) ((mapTables φ b) .shelf)
   done-map (ask q) e = ap (telling (mapTables φ b)) (tells-map q e)
 
   -- THE SIMULATION, one call

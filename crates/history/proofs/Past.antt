@@ -6,13 +6,13 @@ use mathlib.Core.List.{List, [], _∷_}
 use Prim.Native.Nat.{ℕ, zero, suc, _≤_}
 use native.Mathlib.Omega.{arith}
 use Rattle.tools.specs.Tests.{pick}
-use Rattle.tools.specs.Tables.{put}
+use Rattle.tools.specs.Tables.{put, putAt}
 use Rattle.tools.specs.Reasons.{first}
-use Rattle.tools.proofs.Tables.{put-all, put-same, put-other}
+use Rattle.tools.proofs.Tables.{put-all, put-at-all, put-same, put-other, Each-all}
 use Rattle.ring.specs.Phases.{Phases, Pair, isLater, later}
 use Rattle.rules.specs.declared.Setup.{Setup}
-use Rattle.rules.specs.Model.{Row, Seat, Held, Tables, Act, local, reset, keep, drop, discard, send, receive, ask}
-use Rattle.rules.specs.Model.{why, done, step, settle, fresh, seated, freeMail, freeSlot, rowIn, own, phases, tick, turn, grown}
+use Rattle.rules.specs.Model.{Row, Seat, Held, Tables, Act, local, reset, send, receive, drop, discard, ask}
+use Rattle.rules.specs.Model.{why, done, step, settle, fresh, seated, freeMail, slotFor, rowIn, own, phases, tick, turn, grown}
 use Rattle.rules.specs.Model.{nothing, accepted}
 use Rattle.rules.specs.Calls.{Book, Call, start, on, freshBook, settled, reasonsOf, call}
 use Rattle.history.specs.Lags.{Past, NoneAhead}
@@ -35,59 +35,62 @@ put-past : (b : Tables) (f : ℕ → Option Held) (k : ℕ) (v : Option Held) �
     → (p : ℕ) → Past b (rowIn (put f k v p))
 put-past b f k v here there = put-all (λ p (o : Option Held). Past b (rowIn o)) f k v here (λ p ne. there p)
 
--- the tables after an event at j that leaves the row r there
-abbrev left : Tables → ℕ → Row → (ℕ → Option Held) → Tables
-left b j r mail = record { seat = seated b j r; mail = mail; shelf = b .shelf }
+-- the tables after an event at j that leaves the row r there and in the slot o
+abbrev pub left : Tables → ℕ → Row → Option ℕ → (ℕ → Option Held) → Tables
+left b j r o mail =
+    record { seat = seated b j r; mail = mail; shelf = putAt (b .shelf) o (some record { by = j; to = 0; row = r }) }
 
 module _ (b : Tables) (w : NoneAhead b) where
   -- an event at j: the row r but for j's own pair q, which is no earlier than it was
-  module _ (j : ℕ) (r : Row) (q : Pair) (low : Past b r) (up : phases b j ≤ q .phase) (mail : ℕ → Option Held) where
-    own-up : (k : ℕ) → phases b k ≤ phases (left b j (put r j q) mail) k
+  module _ (j : ℕ) (r : Row) (q : Pair) (low : Past b r) (up : phases b j ≤ q .phase) (o : Option ℕ)
+      (mail : ℕ → Option Held) where
+    own-up : (k : ℕ) → phases b k ≤ phases (left b j (put r j q) o mail) k
     own-up =
         put-all (λ k (s : Seat). phases b k ≤ s .row k .phase) (b .seat) j (record { started = true; row = put r j q })
         (rw (put-same r j q) up) (λ k ne. omega arith)
 
-    stays : (ρ : Row) → Past b ρ → Past (left b j (put r j q) mail) ρ
+    stays : (ρ : Row) → Past b ρ → Past (left b j (put r j q) o mail) ρ
     stays ρ h k = let a = h k in let c = own-up k in omega arith
 
-    row-past : Past (left b j (put r j q) mail) (put r j q)
+    row-past : Past (left b j (put r j q) o mail) (put r j q)
     row-past =
         put-all (λ k (s : Seat). put r j q k .phase ≤ s .row k .phase) (b .seat) j (record { started = true; row = put r j q })
         (omega arith) (λ k ne. rw (put-other r j q k ne) (low k))
 
-    event-past : ((p : ℕ) → Past (left b j (put r j q) mail) (rowIn (mail p))) → NoneAhead (left b j (put r j q) mail)
+    event-past : ((p : ℕ) → Past (left b j (put r j q) o mail) (rowIn (mail p))) → NoneAhead (left b j (put r j q) o mail)
     event-past posts =
         record {
-          seats = put-all (λ i (s : Seat). Past (left b j (put r j q) mail) (s .row)) (b .seat) j
+          seats = put-all (λ i (s : Seat). Past (left b j (put r j q) o mail) (s .row)) (b .seat) j
               (record { started = true; row = put r j q }) row-past (λ i ne. stays (b .seat i .row) (w .seats i));
           mail = posts;
-          shelf = λ s. stays (rowIn (b .shelf s)) (w .shelf s);
+          shelf = put-at-all (λ s (h : Option Held). Past (left b j (put r j q) o mail) (rowIn h)) (b .shelf) o _
+              (Each-all (λ s. row-past) o) (λ s. stays (rowIn (b .shelf s)) (w .shelf s));
         }
 
     -- where the mail holds no row but such as were there
-    quiet-past : ((p : ℕ) → Past b (rowIn (mail p))) → NoneAhead (left b j (put r j q) mail)
+    quiet-past : ((p : ℕ) → Past b (rowIn (mail p))) → NoneAhead (left b j (put r j q) o mail)
     quiet-past posts = event-past (λ p. stays (rowIn (mail p)) (posts p))
 
 module _ (Z : Phases) (grows : (v : ℕ) → v ≤ Z .next v) (b : Tables) (w : NoneAhead b) where
   -- an accepted act
   pub done-past : (X : Setup) (c : Act) → NoneAhead ((done Z X b c) .tables)
   unfolding done
-  done-past X (local j) = quiet-past b w j (b .seat j .row) (tick (own b j)) (w .seats j) (omega arith) (b .mail) (w .mail)
-  done-past X (send j k) =
+  done-past X (local j q) =
+      quiet-past b w j (b .seat j .row) (tick (own b j)) (w .seats j) (omega arith) (slotFor b q) (b .mail) (w .mail)
+  done-past X (send j k q) =
       let low = w .seats j in
-      let q = tick (own b j) in
+      let mine = tick (own b j) in
       let mail = put (b .mail) (freeMail b) (some record { by = j; to = k; row = grown b j }) in
-      event-past b w j (b .seat j .row) q low (omega arith) mail
-      (put-all (λ p (o : Option Held). Past (left b j (grown b j) mail) (rowIn o)) (b .mail) (freeMail b) _
-      (row-past b w j (b .seat j .row) q low (omega arith) mail)
-      (λ p ne. stays b w j (b .seat j .row) q low (omega arith) mail (rowIn (b .mail p)) (w .mail p)))
-  done-past X (receive j p) =
+      event-past b w j (b .seat j .row) mine low (omega arith) (slotFor b q) mail
+      (put-all (λ p (o : Option Held). Past (left b j (grown b j) (slotFor b q) mail) (rowIn o)) (b .mail) (freeMail b) _
+      (row-past b w j (b .seat j .row) mine low (omega arith) (slotFor b q) mail)
+      (λ p ne. stays b w j (b .seat j .row) mine low (omega arith) (slotFor b q) mail (rowIn (b .mail p)) (w .mail p)))
+  done-past X (receive j p q) =
       quiet-past b w j (λ k. later Z (phases b k) (b .seat j .row k) (rowIn (b .mail p) k)) (tick (own b j))
       (λ k. later-past Z (phases b k) (b .seat j .row k) (rowIn (b .mail p) k) (w .seats j k) (w .mail p k)) (omega arith)
-      (put (b .mail) p none) (put-past b (b .mail) p none (λ k. omega arith) (w .mail))
-  done-past X (reset j) = quiet-past b w j (b .seat j .row) (turn Z (own b j)) (w .seats j) (grows (phases b j)) (b .mail) (w .mail)
-  done-past X (keep j) =
-      record { seats = w .seats; mail = w .mail; shelf = put-past b (b .shelf) (freeSlot b) _ (w .seats j) (w .shelf) }
+      (slotFor b q) (put (b .mail) p none) (put-past b (b .mail) p none (λ k. omega arith) (w .mail))
+  done-past X (reset j q) =
+      quiet-past b w j (b .seat j .row) (turn Z (own b j)) (w .seats j) (grows (phases b j)) (slotFor b q) (b .mail) (w .mail)
   done-past X (drop s) =
       record { seats = w .seats; mail = w .mail; shelf = put-past b (b .shelf) s none (λ k. omega arith) (w .shelf) }
   done-past X (discard p) =

@@ -17,7 +17,7 @@ use Rattle.tools.proofs.Tables.{put-all, put-same, put-other}
 use Rattle.ring.specs.Phases.{line, Pair, later}
 use Rattle.rules.specs.declared.Setup.{Setup}
 use Rattle.rules.specs.Setups.{permits}
-use Rattle.rules.specs.Model.{Row, Seat, Held, Tables, Act, local, reset, keep, drop, discard, send, receive, ask}
+use Rattle.rules.specs.Model.{Row, Seat, Held, Tables, Act, local, reset, send, receive, drop, discard, ask}
 use Rattle.rules.specs.Model.{step, done, why, grown, merged, turned, seated, rowIn, own, phases, tick, turn, settle}
 use Rattle.rules.specs.Calls.{Call, start, on, lineOf, call}
 use Rattle.rules.proofs.Steps.{step-number}
@@ -123,15 +123,14 @@ module _ (X : Setup) (b : Tables) (h : History) (c : Counted b (h .log)) where
 
   counted-done : (a : Act) → Counted ((done line X b a) .tables) (adds h b a .log)
   unfolding done adds
-  counted-done (local j) = counted-event b (h .log) c j Local (grown b j) (own-is (b .seat j .row) j (tick (own b j))) _ _
-  counted-done (send j k) = counted-event b (h .log) c j Send (grown b j) (own-is (b .seat j .row) j (tick (own b j))) _ _
-  counted-done (receive j p) =
+  counted-done (local j q) = counted-event b (h .log) c j Local (grown b j) (own-is (b .seat j .row) j (tick (own b j))) _ _
+  counted-done (send j k q) = counted-event b (h .log) c j Send (grown b j) (own-is (b .seat j .row) j (tick (own b j))) _ _
+  counted-done (receive j p q) =
       counted-event b (h .log) c j (Receive (h .mailed p)) (merged line b j (rowIn (b .mail p)))
       (own-is (λ k. later line (own b k .phase) (b .seat j .row k) (rowIn (b .mail p) k)) j (tick (own b j))) _ _
-  counted-done (reset j) =
+  counted-done (reset j q) =
       counted-event b (h .log) c j Reset (turned line b j)
-      (own-is (b .seat j .row) j (turn line (own b j)) ∙ (let q : phases b j + 1 ≡ suc (phases b j) = omega arith in q)) _ _
-  counted-done (keep j) = record { own = c .own; phase = c .phase }
+      (own-is (b .seat j .row) j (turn line (own b j)) ∙ (let up : phases b j + 1 ≡ suc (phases b j) = omega arith in up)) _ _
   counted-done (drop s) = record { own = c .own; phase = c .phase }
   counted-done (discard p) = record { own = c .own; phase = c .phase }
   counted-done (ask q) = c

@@ -12,7 +12,7 @@ use Rattle.tools.proofs.Tables.{put-same, put-other, some-is, none-some}
 use Rattle.ring.specs.Phases.{line}
 use Rattle.rules.specs.declared.Setup.{Setup}
 use Rattle.rules.specs.Setups.{permits}
-use Rattle.rules.specs.Model.{Row, Held, Label, Question, slotAsked, Act, local, reset, keep, drop, discard, send, receive, ask, slotOf}
+use Rattle.rules.specs.Model.{Row, Held, Label, Question, slotAsked, Act, local, reset, send, receive, drop, discard, ask, slotOf}
 use Rattle.rules.specs.Model.{Value, Answer, byIn, rowIn, used, why, askTells, done, step, settle}
 use Rattle.rules.specs.Calls.{Book, Call, start, on, call}
 use Rattle.history.specs.Round.{modulo, mapHeld, mapStamp, mapShown, mapValue, roundRow, roundBook}
@@ -54,11 +54,10 @@ roundStamp s c v = stampIn (ownerAt (roundBook (s .book) .tables) (slotOf c)) (m
 module _ (s : State) where
   adds-on : (c : Act) → Onward (s .history .log) (added s c .log)
   unfolding adds
-  adds-on (local j) = one-more (s .history .log) j _ _
-  adds-on (send j k) = one-more (s .history .log) j _ _
-  adds-on (receive j p) = one-more (s .history .log) j _ _
-  adds-on (reset j) = one-more (s .history .log) j _ _
-  adds-on (keep j) = same-log (s .history .log)
+  adds-on (local j q) = one-more (s .history .log) j _ _
+  adds-on (send j k q) = one-more (s .history .log) j _ _
+  adds-on (receive j p q) = one-more (s .history .log) j _ _
+  adds-on (reset j q) = one-more (s .history .log) j _ _
   adds-on (drop t) = same-log (s .history .log)
   adds-on (discard p) = same-log (s .history .log)
   adds-on (ask q) = same-log (s .history .log)
@@ -193,14 +192,13 @@ module _ (s : State) (w : Faithful s) where
       → roundStamp s c (done line (now s) (s .book .tables) c .answer .value) ≡ some e
       → StampOf (now s) (added s c .log) (eventOf (s .history) c) e
   unfolding done adds
-  done-stamp (local j) z e q = event-stamp (now s) (s .history .log) j _ _ e q
-  done-stamp (send j k) z e q = event-stamp (now s) (s .history .log) j _ _ e q
-  done-stamp (receive j p) z e q = event-stamp (now s) (s .history .log) j _ _ e q
-  done-stamp (reset j) z e q = event-stamp (now s) (s .history .log) j _ _ e q
-  done-stamp (keep j) z e q = absurd (none-some q)
-  done-stamp (drop t) z e q = absurd (none-some q)
-  done-stamp (discard p) z e q = absurd (none-some q)
-  done-stamp (ask a) z e q = ask-stamp a z e q
+  done-stamp (local j q) z e p = event-stamp (now s) (s .history .log) j _ _ e p
+  done-stamp (send j k q) z e p = event-stamp (now s) (s .history .log) j _ _ e p
+  done-stamp (receive j i q) z e p = event-stamp (now s) (s .history .log) j _ _ e p
+  done-stamp (reset j q) z e p = event-stamp (now s) (s .history .log) j _ _ e p
+  done-stamp (drop t) z e p = absurd (none-some p)
+  done-stamp (discard i) z e p = absurd (none-some p)
+  done-stamp (ask a) z e p = ask-stamp a z e p
 
   step-stamp : (c : Act) (e : Label)
       → roundStamp s c (step line (now s) (s .book .tables) c .answer .value) ≡ some e

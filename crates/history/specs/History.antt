@@ -1,14 +1,14 @@
--- The run on the line with its history: the accepted events, and the event behind each place, slot and seat.
+-- The run on the line with its history: the accepted events, and the event behind each mail place and slot.
 -- Assumes nothing. In words: docs/RULES.md, "As if phases never came round".
 --   Kind           which of the four events; a receive with the number of its send
 --   cause w        the send that a receive takes in
 --   isReset w      the event is a reset
 --   Log            the accepted events since the last accepted start, numbered from 0
---   History        a log, and the event behind each mail place, each slot and each started seat
+--   History        a log, and the event behind each mail place and each slot
 --   none-yet       the history after a start
 --   Link, Leads    a link from event to event of the log; a chain of links
 --   logged h j w r the log with one more event: at desk j, of kind w, which leaves row r
---   noted          the history with that event, and the mail's events as given
+--   noted          the history with that event, which is behind its slot s where it is kept, and the mail's events as given
 --   adds h b c     the history after an accepted act
 --   State          a book of the line with its history
 --   begin X        the state after a start with the setup X
@@ -20,7 +20,7 @@ use mathlib.Core.Bool.{Bool, true, false}
 use mathlib.Core.Option.{Option, none, some}
 use mathlib.Core.List.{List, [], _∷_}
 use Prim.Native.Nat.{ℕ, suc, _<_}
-use Rattle.tools.specs.Tables.{put}
+use Rattle.tools.specs.Tables.{put, putAt}
 use Rattle.tools.specs.Reasons.{ifDone}
 use Rattle.ring.specs.Phases.{line}
 use Rattle.rules.specs.declared.Setup.{Setup}
@@ -30,17 +30,16 @@ use Rattle.rules.specs.Model.{
   Act,
   local,
   reset,
-  keep,
-  drop,
-  discard,
   send,
   receive,
+  drop,
+  discard,
   ask,
   grown,
   merged,
   turned,
   freeMail,
-  freeSlot,
+  slotFor,
   rowIn,
   zeros,
 }
@@ -73,7 +72,6 @@ pub record History : Type 0 where
   pub log : Log
   pub mailed : ℕ → ℕ
   pub kept : ℕ → ℕ
-  pub last : ℕ → ℕ
 
 abbrev pub none-yet : History
 none-yet =
@@ -81,7 +79,6 @@ none-yet =
       log = record { count = 0; desk = λ e. 0; kind = λ e. Local; row = λ e. zeros };
       mailed = λ p. 0;
       kept = λ s. 0;
-      last = λ j. 0;
     }
 
 -- each link goes to a later event of the log at the same desk, or from a send to the receipt of that mail
@@ -102,17 +99,16 @@ logged h j w r =
       row = put (h .row) (h .count) r;
     }
 
-abbrev pub noted : History → ℕ → Kind → Row → (ℕ → ℕ) → History
-noted h j w r mailed =
-    record { log = logged (h .log) j w r; mailed = mailed; kept = h .kept; last = put (h .last) j (h .log .count) }
+abbrev pub noted : History → ℕ → Kind → Row → Option ℕ → (ℕ → ℕ) → History
+noted h j w r s mailed =
+    record { log = logged (h .log) j w r; mailed = mailed; kept = putAt (h .kept) s (h .log .count) }
 
 unfoldable pub adds : History → Tables → Act → History
-adds h b (local j) = noted h j Local (grown b j) (h .mailed)
-adds h b (send j k) = noted h j Send (grown b j) (put (h .mailed) (freeMail b) (h .log .count))
-adds h b (receive j p) = noted h j (Receive (h .mailed p)) (merged line b j (rowIn (b .mail p))) (h .mailed)
-adds h b (reset j) = noted h j Reset (turned line b j) (h .mailed)
-adds h b (keep j) =
-    record { log = h .log; mailed = h .mailed; kept = put (h .kept) (freeSlot b) (h .last j); last = h .last }
+adds h b (local j q) = noted h j Local (grown b j) (slotFor b q) (h .mailed)
+adds h b (send j k q) = noted h j Send (grown b j) (slotFor b q) (put (h .mailed) (freeMail b) (h .log .count))
+adds h b (receive j p q) =
+    noted h j (Receive (h .mailed p)) (merged line b j (rowIn (b .mail p))) (slotFor b q) (h .mailed)
+adds h b (reset j q) = noted h j Reset (turned line b j) (slotFor b q) (h .mailed)
 adds h b (drop s) = h
 adds h b (discard p) = h
 adds h b (ask q) = h

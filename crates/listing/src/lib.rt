@@ -4,12 +4,13 @@ ghost use Prim.Native.Nat.{_<_, _≤_};
 ghost use lib.ListN.{length};
 ghost use Rattle.text.specs.Put.{Wrote};
 ghost use Rattle.text.specs.Stream.{start, held, most, lastText, lastBook};
+ghost use Rattle.replies.specs.Print.{longest};
 ghost use Rattle.answering.specs.Answering.{answering};
 ghost use Rattle.listing.specs.Feeding.{fedText, Feeds};
 use text::Pending;
 
 // No line that is printed is longer.
-pub const ROOM: usize = 76;
+pub const ROOM: usize = replies::LONGEST;
 
 // What a feed has done: the line that has begun, how many bytes of the piece are taken in, and where the written text ends.
 pub struct Fed {
@@ -42,7 +43,7 @@ fn feed_lines(book: &mut [u8], out: &mut [u8], at: usize, piece: &[u8]) -> Fed
 
 // A piece of the stream is taken in, of any size, as far as there is room for what it prints.
 pub fn feed(book: &mut [u8], out: &mut [u8], p: Pending, piece: &[u8]) -> Fed
-    requires { ⌜ (p .count ≤ most) × (76 ≤ length (now out)) ⌝ }
+    requires { ⌜ (p .count ≤ most) × (longest ≤ length (now out)) ⌝ }
     ensures { λ r. ⌜ Wrote (now (out .entry)) 0 (fedText (held (now (book .entry)) p) (now (piece .entry)) (r .used))
         (now (out .exit)) (r .end) ⌝ }
     ensures { λ r. ⌜ Feeds (held (now (book .entry)) p) (now (piece .entry)) (r .used) (now (book .exit)) (r .pending) ⌝ }
@@ -72,7 +73,7 @@ pub fn feed(book: &mut [u8], out: &mut [u8], p: Pending, piece: &[u8]) -> Fed
 
 // The stream has ended: a last line may lack its newline.
 pub fn finish(book: &mut [u8], out: &mut [u8], p: Pending) -> usize
-    requires { ⌜ (p .count ≤ most) × (76 ≤ length (now out)) ⌝ }
+    requires { ⌜ (p .count ≤ most) × (longest ≤ length (now out)) ⌝ }
     ensures { λ r. ⌜ Wrote (now (out .entry)) 0 (lastText answering (held (now (book .entry)) p)) (now (out .exit)) r ⌝ }
     ensures { λ _. ⌜ now (book .exit) ≡ lastBook answering (held (now (book .entry)) p) ⌝ }
 {

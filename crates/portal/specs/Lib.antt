@@ -1,2 +1,3 @@
--- Records that are freed.
+-- Records that are freed, and rows that are kept.
 pub mod Freed
+pub mod Kept

@@ -7,14 +7,16 @@ ghost use Rattle.rules.specs.Model;
 ghost use Rattle.rules.specs.Model.{refusal};
 ghost use Rattle.rules.specs.Calls;
 ghost use Rattle.rules.specs.Calls.{on};
-ghost use Rattle.rules.specs.Replies.{stampedSays, postedSays, keptSays, toldSays, comparedSays, blank};
+ghost use Rattle.rules.specs.Replies.{stampedSays, postedSays, toldSays, comparedSays, blank};
 ghost use Rattle.rules.specs.Replies.{Beside, BesidePost};
+ghost use Rattle.rules.specs.declared.Kept.the-variants as Keeps;
 ghost use Rattle.book.specs.Layout;
 ghost use Rattle.book.specs.Layout.{bookSize, records, shelfFrom, seats, setupOf};
 ghost use Rattle.book.specs.Answers.{answerTo, bookAfter, partOf, partFrom, targetAfter};
 ghost use Rattle.refusals.specs.First.{usedNumber};
 ghost use Rattle.parts.specs.Slices.{place};
 ghost use Rattle.portal.specs.Freed.{cleared, freeAfter};
+ghost use Rattle.portal.specs.Kept.{keptIn, shelved};
 use rules::Compared;
 use rules::Kept;
 use rules::Posted;
@@ -44,12 +46,13 @@ fn no_stamp() -> Stamp
 }
 
 fn refused(number: u8) -> Stamped
-    ensures { λ r. ⌜ r ≡ record { number = number; stamp = blank } ⌝ }
+    ensures { λ r. ⌜ r ≡ record { number = number; stamp = blank; kept = Keeps.No } ⌝ }
 {
     let stamp = no_stamp();
     Stamped {
         number: number,
         stamp: stamp,
+        kept: Kept::No,
     }
 }
 
@@ -62,14 +65,35 @@ fn clear(book: &mut [u8], k: usize)
     parts::post(book, k, parts::FREE, parts::FILLER, [0u8; 16]);
 }
 
-// All four events mark the seat started and answer a stamp.
-fn take_row(book: &mut [u8], desk: usize, row: [u8; 16]) -> Stamped
+// A row of a desk is kept in a slot; a slot above 31 is none, and nothing is kept.
+fn keep_row(book: &mut [u8], desk: usize, row: [u8; 16], slot: usize) -> Kept
     requires { ⌜ length (now book) ≡ bookSize ⌝ }
     requires { ⌜ desk < seats ⌝ }
-    ensures { λ r. ⌜ r ≡ record { number = 0; stamp = record { owner = desk; row = row } } ⌝ }
-    ensures { λ _. ⌜ now (book .exit) ≡ Layout.post (now (book .entry)) desk 1 0 row ⌝ }
+    ensures { λ r. ⌜ r ≡ keptIn slot ⌝ }
+    ensures { λ _. ⌜ now (book .exit) ≡ shelved (now (book .entry)) desk row slot ⌝ }
+{
+    if parts::PLACES <= slot {
+        return Kept::No;
+    }
+    parts::post(
+        book,
+        parts::SHELF + slot,
+        (desk + 1) as u8,
+        parts::FILLER,
+        row,
+    );
+    Kept::In(slot as u8)
+}
+
+// All four events mark the seat started, keep the row where they have a slot for it, and answer a stamp.
+fn take_row(book: &mut [u8], desk: usize, row: [u8; 16], slot: usize) -> Stamped
+    requires { ⌜ length (now book) ≡ bookSize ⌝ }
+    requires { ⌜ desk < seats ⌝ }
+    ensures { λ r. ⌜ r ≡ record { number = 0; stamp = record { owner = desk; row = row }; kept = keptIn slot } ⌝ }
+    ensures { λ _. ⌜ now (book .exit) ≡ shelved (Layout.post (now (book .entry)) desk 1 0 row) desk row slot ⌝ }
 {
     parts::post(book, desk, parts::STARTED, parts::FILLER, row);
+    let kept = keep_row(book, desk, row, slot);
     let stamp = Stamp {
         owner: desk as u8,
         row: row,
@@ -77,6 +101,7 @@ fn take_row(book: &mut [u8], desk: usize, row: [u8; 16]) -> Stamped
     Stamped {
         number: rules::DONE,
         stamp: stamp,
+        kept: kept,
     }
 }
 
@@ -95,88 +120,76 @@ pub fn start(book: &mut [u8], s: Setup) -> u8
     rules::DONE
 }
 
-// Local at a desk: its own clock grows by 1.
-pub fn local(book: &mut [u8], desk: usize) -> Stamped
-    ensures { λ r. ⌜ stampedSays r ≡ answerTo (now (book .entry)) (on (Model.local desk)) ⌝ }
-    ensures { λ r. ⌜ Beside (r .number) (r .stamp) ⌝ }
-    ensures { λ _. ⌜ now (book .exit) ≡ bookAfter (now (book .entry)) (on (Model.local desk)) ⌝ }
+// Local at a desk: its own clock grows by 1. Its stamp is kept or not, as that of each event.
+pub fn local(book: &mut [u8], desk: usize, keep: bool) -> Stamped
+    ensures { λ r. ⌜ stampedSays r ≡ answerTo (now (book .entry)) (on (Model.local desk keep)) ⌝ }
+    ensures { λ r. ⌜ Beside (r .number) (r .stamp) (r .kept) ⌝ }
+    ensures { λ _. ⌜ now (book .exit) ≡ bookAfter (now (book .entry)) (on (Model.local desk keep)) ⌝ }
 {
-    let n = refusals::local_number(&book[..], desk);
-    if n != rules::DONE {
-        return refused(n);
+    let grant = refusals::local_grant(&book[..], desk, keep);
+    if grant.number != rules::DONE {
+        return refused(grant.number);
     }
     let row = rows::grown_row(&book[..], desk);
-    take_row(book, desk, row)
+    take_row(book, desk, row, grant.slot)
 }
 
 // Send from a desk to another: as local, then the row goes into the lowest free mail place.
-pub fn send(book: &mut [u8], desk: usize, to: usize) -> Sent
-    ensures { λ r. ⌜ postedSays (r .place) (r .stamp) ≡ answerTo (now (book .entry)) (on (Model.send desk to)) ⌝ }
-    ensures { λ r. ⌜ BesidePost (r .place) (r .stamp) ⌝ }
-    ensures { λ _. ⌜ now (book .exit) ≡ bookAfter (now (book .entry)) (on (Model.send desk to)) ⌝ }
+pub fn send(book: &mut [u8], desk: usize, to: usize, keep: bool) -> Sent
+    ensures { λ r. ⌜ postedSays (r .place) (r .stamp) (r .kept) ≡ answerTo (now (book .entry)) (on (Model.send desk to keep)) ⌝ }
+    ensures { λ r. ⌜ BesidePost (r .place) (r .stamp) (r .kept) ⌝ }
+    ensures { λ _. ⌜ now (book .exit) ≡ bookAfter (now (book .entry)) (on (Model.send desk to keep)) ⌝ }
 {
-    let n = refusals::send_number(&book[..], desk, to);
-    if n != rules::DONE {
+    let grant = refusals::send_grant(&book[..], desk, to, keep);
+    if grant.number != rules::DONE {
         let stamp = no_stamp();
         return Sent {
-            place: Posted::Refused(n),
+            place: Posted::Refused(grant.number),
             stamp: stamp,
+            kept: Kept::No,
         };
     }
     let p = reasons::free_from(&book[..], parts::MAIL);
     let row = rows::grown_row(&book[..], desk);
     parts::post(book, parts::MAIL + p, (desk + 1) as u8, (to + 1) as u8, row);
-    let stamped = take_row(book, desk, row);
+    let stamped = take_row(book, desk, row, grant.slot);
     let stamp = stamped.stamp;
+    let kept = stamped.kept;
     Sent {
         place: Posted::At(p as u8),
         stamp: stamp,
+        kept: kept,
     }
 }
 
 // Receive at a desk from a place: its own clock grows by 1; for every other desk, the later of the two pairs; the place is free.
-pub fn receive(book: &mut [u8], desk: usize, place: usize) -> Stamped
-    ensures { λ r. ⌜ stampedSays r ≡ answerTo (now (book .entry)) (on (Model.receive desk place)) ⌝ }
-    ensures { λ r. ⌜ Beside (r .number) (r .stamp) ⌝ }
-    ensures { λ _. ⌜ now (book .exit) ≡ bookAfter (now (book .entry)) (on (Model.receive desk place)) ⌝ }
+pub fn receive(book: &mut [u8], desk: usize, place: usize, keep: bool) -> Stamped
+    ensures { λ r. ⌜ stampedSays r ≡ answerTo (now (book .entry)) (on (Model.receive desk place keep)) ⌝ }
+    ensures { λ r. ⌜ Beside (r .number) (r .stamp) (r .kept) ⌝ }
+    ensures { λ _. ⌜ now (book .exit) ≡ bookAfter (now (book .entry)) (on (Model.receive desk place keep)) ⌝ }
 {
-    let n = refusals::receive_number(&book[..], desk, place);
-    if n != rules::DONE {
-        return refused(n);
+    let grant = refusals::receive_grant(&book[..], desk, place, keep);
+    if grant.number != rules::DONE {
+        return refused(grant.number);
     }
     let row = rows::merged_row(&book[..], desk, place);
     let from = parts::MAIL + place;
     clear(book, from);
-    take_row(book, desk, row)
+    take_row(book, desk, row, grant.slot)
 }
 
 // Reset at a desk: its own phase grows by 1 modulo P and its own clock becomes 0. No other seat changes.
-pub fn reset(book: &mut [u8], desk: usize) -> Stamped
-    ensures { λ r. ⌜ stampedSays r ≡ answerTo (now (book .entry)) (on (Model.reset desk)) ⌝ }
-    ensures { λ r. ⌜ Beside (r .number) (r .stamp) ⌝ }
-    ensures { λ _. ⌜ now (book .exit) ≡ bookAfter (now (book .entry)) (on (Model.reset desk)) ⌝ }
+pub fn reset(book: &mut [u8], desk: usize, keep: bool) -> Stamped
+    ensures { λ r. ⌜ stampedSays r ≡ answerTo (now (book .entry)) (on (Model.reset desk keep)) ⌝ }
+    ensures { λ r. ⌜ Beside (r .number) (r .stamp) (r .kept) ⌝ }
+    ensures { λ _. ⌜ now (book .exit) ≡ bookAfter (now (book .entry)) (on (Model.reset desk keep)) ⌝ }
 {
-    let n = refusals::reset_number(&book[..], desk);
-    if n != rules::DONE {
-        return refused(n);
+    let grant = refusals::reset_grant(&book[..], desk, keep);
+    if grant.number != rules::DONE {
+        return refused(grant.number);
     }
     let row = rows::turned_row(&book[..], desk);
-    take_row(book, desk, row)
-}
-
-// Keep at a desk copies its present row to the lowest free slot.
-pub fn keep(book: &mut [u8], desk: usize) -> Kept
-    ensures { λ r. ⌜ keptSays r ≡ answerTo (now (book .entry)) (on (Model.keep desk)) ⌝ }
-    ensures { λ _. ⌜ now (book .exit) ≡ bookAfter (now (book .entry)) (on (Model.keep desk)) ⌝ }
-{
-    let n = refusals::keep_number(&book[..], desk);
-    if n != rules::DONE {
-        return Kept::Refused(n);
-    }
-    let s = reasons::free_from(&book[..], parts::SHELF);
-    let row = rows::row_array(&book[..], desk);
-    parts::post(book, parts::SHELF + s, (desk + 1) as u8, parts::FILLER, row);
-    Kept::Slot(s as u8)
+    take_row(book, desk, row, grant.slot)
 }
 
 // Drop and discard: a used slot or place is freed, any other refused; first is the record of place or slot 0.

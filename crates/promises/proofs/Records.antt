@@ -16,7 +16,7 @@ use Rattle.tools.proofs.Tables.{put-same, some-is, none-some}
 use Rattle.ring.specs.Phases.{Pair, ring}
 use Rattle.rules.specs.declared.Setup.{Setup}
 use Rattle.rules.specs.Model.{Row, Seat, Held, Tables, Label, Question, slotAsked, Value}
-use Rattle.rules.specs.Model.{Act, local, reset, keep, drop, discard, send, receive, ask, before, compare, write, slotOf}
+use Rattle.rules.specs.Model.{Act, local, reset, send, receive, drop, discard, ask, before, compare, write, slotOf}
 use Rattle.rules.specs.Numbers.{BadBook, number}
 use Rattle.rules.specs.Model.{Answer, refusal, byIn, rowIn, used, why, askTells, done, step, settle}
 use Rattle.book.specs.Fits.{PairFits, RowFits, SlotFits, Fits}
@@ -95,15 +95,14 @@ module _ (X : Setup) (ok : Permitted X) (b : Tables) (w : Fits X b) where
   done-label : (c : Act) → why (ring (X .phases)) X b c ≡ 0 → (e : Label)
       → stampIn (ownerAt b (slotOf c)) (done (ring (X .phases)) X b c .answer .value) ≡ some e → Readable X e
   unfolding done
-  done-label (local j) z e p =
-      event-label (local j) z j _ e (no-local _ X b j z .0) (ap (λ (s : Seat). s .row) (put-same (b .seat) j _)) p
-  done-label (send j k) z e p =
-      event-label (send j k) z j _ e (no-send _ X b j k z .0) (ap (λ (s : Seat). s .row) (put-same (b .seat) j _)) p
-  done-label (receive j i) z e p =
-      event-label (receive j i) z j _ e (no-receive _ X b j i z .0) (ap (λ (s : Seat). s .row) (put-same (b .seat) j _)) p
-  done-label (reset j) z e p =
-      event-label (reset j) z j _ e (no-reset _ X b j z .0) (ap (λ (s : Seat). s .row) (put-same (b .seat) j _)) p
-  done-label (keep j) z e p = absurd (none-some p)
+  done-label (local j q) z e p =
+      event-label (local j q) z j _ e (no-local _ X b j q z .0) (ap (λ (s : Seat). s .row) (put-same (b .seat) j _)) p
+  done-label (send j k q) z e p =
+      event-label (send j k q) z j _ e (no-send _ X b j k q z .0) (ap (λ (s : Seat). s .row) (put-same (b .seat) j _)) p
+  done-label (receive j i q) z e p =
+      event-label (receive j i q) z j _ e (no-receive _ X b j i q z .0) (ap (λ (s : Seat). s .row) (put-same (b .seat) j _)) p
+  done-label (reset j q) z e p =
+      event-label (reset j q) z j _ e (no-reset _ X b j q z .0) (ap (λ (s : Seat). s .row) (put-same (b .seat) j _)) p
   done-label (drop s) z e p = absurd (none-some p)
   done-label (discard i) z e p = absurd (none-some p)
   done-label (ask q) z e p = ask-label q z e p

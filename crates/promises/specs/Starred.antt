@@ -1,4 +1,4 @@
--- The starred cases of the rules, 1 to 12, under one statement: computed on the model, and carried to bytes.
+-- The starred cases of the rules, 1 to 4 and 6 to 12, under one statement: computed on the model, and carried to bytes.
 -- Assumes nothing.
 --   fourthRecord   the bytes of case 4
 --   Starred        the statement
@@ -23,7 +23,7 @@ fourthRecord =
     0x53 ∷ 0x54 ∷ 0x00 ∷ 0x03 ∷ 0x00 ∷ 0x01 ∷ 0 ∷ 0 ∷ 0 ∷ 0 ∷ 0 ∷ 0 ∷ 0 ∷ 0 ∷ 0 ∷ 0 ∷ 0 ∷ 0 ∷ 0 ∷ 0 ∷ []
 
 pub record Starred : Type 0 where
-  -- 1 to 3 and 5 to 12, with the listing, a run for each error of the desks and for each refusal left out there, on any book
+  -- 1 to 3 and 6 to 12, with the listing, a run for each error of the desks and for each refusal left out there, on any book
   pub cases : Cases
   -- 4: the record of the stamp that local 0 answers on a fresh book
   pub fourth : writeStamp 3 (record { owner = 0; row = grown fresh 0 }) ≡ fourthRecord

@@ -41,14 +41,6 @@ pub fn not_yours(book: &[u8], desk: usize, place: usize) -> bool
     tools::wide(parts::tag_b(book, parts::MAIL + place)) != desk + 1
 }
 
-// NoEvent: the seat has not started.
-pub fn no_event(book: &[u8], desk: usize) -> bool
-    requires { ⌜ AtDesk (now book) desk ⌝ }
-    ensures { λ r. ⌜ r ≡ not (tablesOf (now (book .entry)) .seat desk .started) ⌝ }
-{
-    parts::tag_a(book, desk) != parts::STARTED
-}
-
 // PhaseFull: the desk's own clock is at its last value.
 pub fn phase_full(book: &[u8], desk: usize) -> bool
     requires { ⌜ AtDesk (now book) desk ⌝ }
@@ -73,13 +65,12 @@ pub fn free_from(book: &[u8], first: usize) -> usize
     parts::PLACES
 }
 
-// MailFull, ShelfFull: none of the 32 is free; first is the record of place or slot 0.
-pub fn full(book: &[u8], first: usize) -> bool
+// MailFull: no place is free.
+pub fn mail_full(book: &[u8]) -> bool
     requires { ⌜ length (now book) ≡ bookSize ⌝ }
-    requires { ⌜ first ≤ shelfFrom ⌝ }
-    ensures { λ r. ⌜ r ≡ not (ltb (freeFrom (now (book .entry)) first) places) ⌝ }
+    ensures { λ r. ⌜ r ≡ not (ltb (freeFrom (now (book .entry)) mailFrom) places) ⌝ }
 {
-    !(free_from(book, first) < parts::PLACES)
+    !(free_from(book, parts::MAIL) < parts::PLACES)
 }
 
 fn lag_at(book: &[u8], desk: usize, row: usize) -> usize

@@ -1,3 +1,4 @@
 -- The laws of refusals.
 pub mod First
 pub mod Slots
+pub mod Grants

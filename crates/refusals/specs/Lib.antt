@@ -1,2 +1,3 @@
 -- What the numbers of the calls ask first.
 pub mod First
+pub mod Grants

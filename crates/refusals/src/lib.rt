@@ -1,12 +1,51 @@
-// The number that each call is answered before anything is changed: BadBook first, then its reasons in ascending order.
+// The number that each call is answered before anything is changed: BadBook first, then its reasons in ascending order. To an event
+// goes with it the slot that its stamp is kept in, so that the shelf is looked through once.
 ghost use mathlib.Core.Path.{_≡_};
 ghost use Prim.Native.Nat.{_<_, _≤_};
+ghost use lib.ListN.{length};
 ghost use Rattle.rules.specs.Model;
-ghost use Rattle.book.specs.Layout.{shelfFrom};
+ghost use Rattle.book.specs.Layout.{bookSize, shelfFrom};
 ghost use Rattle.book.specs.Numbers.{numberOf};
 ghost use Rattle.refusals.specs.First.{deskNumber, usedNumber, slotsNumber};
+ghost use Rattle.refusals.specs.Grants.{granted, shelfGrant, grantOf};
 
-// What local, receive, reset and keep ask first.
+// What an event is granted: its number, and where that is 0 the slot for its stamp; 32, which is none, where it is not kept.
+pub struct Grant {
+    pub number: u8,
+    pub slot: usize,
+}
+
+fn refused(number: u8) -> Grant
+    ensures { λ r. ⌜ r ≡ granted number 32 ⌝ }
+{
+    Grant {
+        number: number,
+        slot: parts::PLACES,
+    }
+}
+
+// ShelfFull, or the slot of an event that is kept: what all four ask, if only for a kept one.
+fn shelf_grant(book: &[u8], keep: bool) -> Grant
+    requires { ⌜ length (now book) ≡ bookSize ⌝ }
+    ensures { λ r. ⌜ r ≡ shelfGrant (now (book .entry)) keep ⌝ }
+{
+    if !keep {
+        return Grant {
+            number: rules::DONE,
+            slot: parts::PLACES,
+        };
+    }
+    let slot = reasons::free_from(book, parts::SHELF);
+    if slot < parts::PLACES {
+        return Grant {
+            number: rules::DONE,
+            slot: slot,
+        };
+    }
+    refused(rules::SHELF_FULL)
+}
+
+// What local, receive and reset ask first.
 fn desk_number(book: &[u8], desk: usize) -> u8
     ensures { λ r. ⌜ r ≡ deskNumber (now (book .entry)) desk ⌝ }
 {
@@ -19,97 +58,84 @@ fn desk_number(book: &[u8], desk: usize) -> u8
     rules::DONE
 }
 
-// Local: BadBook, NoDesk, PhaseFull or 0.
-pub fn local_number(book: &[u8], desk: usize) -> u8
-    ensures { λ r. ⌜ r ≡ numberOf (now (book .entry)) (Model.local desk) ⌝ }
+// Local: BadBook, NoDesk, PhaseFull, ShelfFull or 0.
+pub fn local_grant(book: &[u8], desk: usize, keep: bool) -> Grant
+    ensures { λ r. ⌜ r ≡ grantOf (now (book .entry)) (Model.local desk keep) keep ⌝ }
 {
     let n = desk_number(book, desk);
     if n != rules::DONE {
-        return n;
+        return refused(n);
     }
     if reasons::phase_full(book, desk) {
-        return rules::PHASE_FULL;
+        return refused(rules::PHASE_FULL);
     }
-    rules::DONE
+    shelf_grant(book, keep)
 }
 
-// Send: BadBook, NoDesk, SameDesk, PhaseFull, MailFull or 0.
-pub fn send_number(book: &[u8], desk: usize, to: usize) -> u8
-    ensures { λ r. ⌜ r ≡ numberOf (now (book .entry)) (Model.send desk to) ⌝ }
+// Send: BadBook, NoDesk, SameDesk, PhaseFull, MailFull, ShelfFull or 0.
+pub fn send_grant(book: &[u8], desk: usize, to: usize, keep: bool) -> Grant
+    ensures { λ r. ⌜ r ≡ grantOf (now (book .entry)) (Model.send desk to keep) keep ⌝ }
 {
     if !soundness::sound(book) {
-        return rules::BAD_BOOK;
+        return refused(rules::BAD_BOOK);
     }
     if reasons::no_desk(book, desk) | reasons::no_desk(book, to) {
-        return rules::NO_DESK;
+        return refused(rules::NO_DESK);
     }
     if desk == to {
-        return rules::SAME_DESK;
+        return refused(rules::SAME_DESK);
     }
     if reasons::phase_full(book, desk) {
-        return rules::PHASE_FULL;
+        return refused(rules::PHASE_FULL);
     }
-    if reasons::full(book, parts::MAIL) {
-        return rules::MAIL_FULL;
+    if reasons::mail_full(book) {
+        return refused(rules::MAIL_FULL);
     }
-    rules::DONE
+    shelf_grant(book, keep)
 }
 
-// Receive: BadBook, NoDesk, NoPlace, NotYours, PhaseFull or 0.
-pub fn receive_number(book: &[u8], desk: usize, place: usize) -> u8
-    ensures { λ r. ⌜ r ≡ numberOf (now (book .entry)) (Model.receive desk place) ⌝ }
+// Receive: BadBook, NoDesk, NoPlace, NotYours, PhaseFull, ShelfFull or 0.
+pub fn receive_grant(book: &[u8], desk: usize, place: usize, keep: bool) -> Grant
+    ensures { λ r. ⌜ r ≡ grantOf (now (book .entry)) (Model.receive desk place keep) keep ⌝ }
 {
     let n = desk_number(book, desk);
     if n != rules::DONE {
-        return n;
+        return refused(n);
     }
     if !reasons::is_used(book, parts::MAIL, place) {
-        return rules::NO_PLACE;
+        return refused(rules::NO_PLACE);
     }
     if reasons::not_yours(book, desk, place) {
-        return rules::NOT_YOURS;
+        return refused(rules::NOT_YOURS);
     }
     if reasons::phase_full(book, desk) {
-        return rules::PHASE_FULL;
+        return refused(rules::PHASE_FULL);
     }
-    rules::DONE
+    shelf_grant(book, keep)
 }
 
-// Reset: BadBook, NoDesk, SeatBehind, MailBehind, ShelfBehind or 0.
-pub fn reset_number(book: &[u8], desk: usize) -> u8
-    ensures { λ r. ⌜ r ≡ numberOf (now (book .entry)) (Model.reset desk) ⌝ }
+// Reset: BadBook, NoDesk, ShelfFull, SeatBehind, MailBehind, ShelfBehind or 0.
+pub fn reset_grant(book: &[u8], desk: usize, keep: bool) -> Grant
+    ensures { λ r. ⌜ r ≡ grantOf (now (book .entry)) (Model.reset desk keep) keep ⌝ }
 {
     let n = desk_number(book, desk);
     if n != rules::DONE {
-        return n;
+        return refused(n);
+    }
+    let grant = shelf_grant(book, keep);
+    if grant.number != rules::DONE {
+        return grant;
     }
     if reasons::seat_behind(book, desk) {
-        return rules::SEAT_BEHIND;
+        return refused(rules::SEAT_BEHIND);
     }
     if reasons::mail_behind(book, desk) {
-        return rules::MAIL_BEHIND;
+        return refused(rules::MAIL_BEHIND);
     }
     if reasons::shelf_behind(book, desk) {
-        return rules::SHELF_BEHIND;
+        return refused(rules::SHELF_BEHIND);
     }
-    rules::DONE
-}
-
-// Keep: BadBook, NoDesk, NoEvent, ShelfFull or 0.
-pub fn keep_number(book: &[u8], desk: usize) -> u8
-    ensures { λ r. ⌜ r ≡ numberOf (now (book .entry)) (Model.keep desk) ⌝ }
-{
-    let n = desk_number(book, desk);
-    if n != rules::DONE {
-        return n;
-    }
-    if reasons::no_event(book, desk) {
-        return rules::NO_EVENT;
-    }
-    if reasons::full(book, parts::SHELF) {
-        return rules::SHELF_FULL;
-    }
-    rules::DONE
+    grant
 }
 
 // Drop and discard: BadBook, NoPlace or 0; first is the record of place or slot 0.

@@ -8,6 +8,7 @@
 --   verdictText t     a space and yes or no
 --   then s f o        the text s, and behind it f of what o holds, if it holds something
 --   answerText D a    the line in a book of D desks: the number, then each part of the value that is there
+--   longest           the bytes of the longest line: number, place, owner, eight pairs, slot and newline
 --   Printable D a     there are at most eight desks, where their pairs may be asked for
 use Prim.Native.Nat.{ℕ, zero, suc, _≤_}
 use mathlib.Core.Path.{_≡_}
@@ -53,6 +54,9 @@ answerText D a =
     let kept = then stamped field (a .value .slot) in
     let told = then kept verdictText (a .value .verdict) in
     then told wordText (a .value .relation) ++ (10 ∷ [])
+
+abbrev pub longest : ℕ
+longest = 80
 
 abbrev pub Printable : ℕ → Answer → Type 0
 Printable D a = a .number ≡ 0 → D ≤ 8

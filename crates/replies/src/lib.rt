@@ -1,11 +1,12 @@
-// Answers as lines of text, each written into a lent buffer from a place on. No line is over 76 bytes. A line with no pairs is
-// the same in a book of any number of desks.
+// Answers as lines of text, each written into a lent buffer from a place on. A line with no pairs is the same in a book of any
+// number of desks.
 ghost use Prim.Native.Nat.{ℕ, _+_, _≤_};
+ghost use mathlib.Core.List.{[]};
 ghost use lib.ListN.{length};
 ghost use Rattle.text.specs.Put.{Wrote, field};
 ghost use Rattle.rules.specs.Model.{refusal, accepted, relates};
-ghost use Rattle.rules.specs.Replies.{rowOf, stampedSays, postedSays, keptSays, toldSays, comparedSays};
-ghost use Rattle.replies.specs.Print.{pair, pairs, stampText, answerText, Printable};
+ghost use Rattle.rules.specs.Replies.{rowOf, slotIn, stampedSays, postedSays, toldSays, comparedSays};
+ghost use Rattle.replies.specs.Print.{pair, pairs, stampText, then, answerText, longest, Printable};
 use rules::Compared;
 use rules::Kept;
 use rules::Posted;
@@ -14,6 +15,9 @@ use rules::Sent;
 use rules::Stamp;
 use rules::Stamped;
 use rules::Told;
+
+// The bytes of the longest line.
+pub const LONGEST: usize = 80;
 
 // A space and a number.
 fn put_field(out: &mut [u8], at: usize, n: u8) -> usize
@@ -58,6 +62,17 @@ fn put_stamp(out: &mut [u8], at: usize, desks: u8, s: Stamp) -> usize
     put_pairs(out, a, desks, row)
 }
 
+// The slot of an event that is kept; nothing where it is not.
+fn put_slot(out: &mut [u8], at: usize, kept: Kept) -> usize
+    requires { ⌜ at + 4 ≤ length (now out) ⌝ }
+    ensures { λ r. ⌜ Wrote (now (out .entry)) at (then [] field (slotIn kept)) (now (out .exit)) r ⌝ }
+{
+    match kept {
+        Kept::No => at,
+        Kept::In(s) => put_field(out, at, s),
+    }
+}
+
 // The line of an answer that is a number alone: a refusal, or done.
 pub fn put_number(out: &mut [u8], at: usize, n: u8) -> usize
     requires { ⌜ at + 4 ≤ length (now out) ⌝ }
@@ -69,48 +84,37 @@ pub fn put_number(out: &mut [u8], at: usize, n: u8) -> usize
 
 // The line of an answer to local, receive or reset.
 pub fn put_stamped(out: &mut [u8], at: usize, desks: u8, r: Stamped) -> usize
-    requires { ⌜ Printable desks (stampedSays r) × (at + 76 ≤ length (now out)) ⌝ }
+    requires { ⌜ Printable desks (stampedSays r) × (at + longest ≤ length (now out)) ⌝ }
     ensures { λ n. ⌜ Wrote (now (out .entry)) at (answerText desks (stampedSays r)) (now (out .exit)) n ⌝ }
 {
     if r.number != rules::DONE {
         return put_number(out, at, r.number);
     }
     let s = r.stamp;
+    let kept = r.kept;
     let a = text::put_three(out, at, rules::DONE);
     let b = put_stamp(out, a, desks, s);
-    text::put_byte(out, b, b'\n')
+    let c = put_slot(out, b, kept);
+    text::put_byte(out, c, b'\n')
 }
 
 // The line of an answer to send.
 pub fn put_sent(out: &mut [u8], at: usize, desks: u8, r: Sent) -> usize
-    requires { ⌜ Printable desks (postedSays (r .place) (r .stamp)) × (at + 76 ≤ length (now out)) ⌝ }
-    ensures { λ n. ⌜ Wrote (now (out .entry)) at (answerText desks (postedSays (r .place) (r .stamp))) (now (out .exit)) n ⌝ }
+    requires { ⌜ Printable desks (postedSays (r .place) (r .stamp) (r .kept)) × (at + longest ≤ length (now out)) ⌝ }
+    ensures { λ n. ⌜ Wrote (now (out .entry)) at (answerText desks (postedSays (r .place) (r .stamp) (r .kept))) (now (out .exit)) n ⌝ }
 {
     let place = r.place;
     match place {
         Posted::At(p) => {
             let s = r.stamp;
+            let kept = r.kept;
             let a = text::put_three(out, at, rules::DONE);
             let b = put_field(out, a, p);
             let c = put_stamp(out, b, desks, s);
-            text::put_byte(out, c, b'\n')
+            let d = put_slot(out, c, kept);
+            text::put_byte(out, d, b'\n')
         }
         Posted::Refused(n) => put_number(out, at, n),
-    }
-}
-
-// The line of an answer to keep.
-pub fn put_kept(out: &mut [u8], at: usize, r: Kept) -> usize
-    requires { ⌜ at + 8 ≤ length (now out) ⌝ }
-    ensures { λ n. ⌜ ((D : ℕ) → Wrote (now (out .entry)) at (answerText D (keptSays r)) (now (out .exit)) n) ⌝ }
-{
-    match r {
-        Kept::Slot(s) => {
-            let a = text::put_three(out, at, rules::DONE);
-            let b = put_field(out, a, s);
-            text::put_byte(out, b, b'\n')
-        }
-        Kept::Refused(n) => put_number(out, at, n),
     }
 }
 

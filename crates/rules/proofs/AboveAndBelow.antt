@@ -23,7 +23,7 @@ use Rattle.ring.specs.Phases.{Pair}
 use Rattle.rules.specs.declared.Setup.{Setup}
 use Rattle.rules.specs.Setups.{permits, inRange, related}
 use Rattle.rules.specs.Numbers.{BadBook, BadLine, number}
-use Rattle.rules.specs.Model.{Row, Seat, Held, Label, local, reset, keep, drop, discard, send, receive, before, compare, write}
+use Rattle.rules.specs.Model.{Row, Seat, Held, Label, local, reset, send, receive, drop, discard, before, compare, write}
 use Rattle.rules.specs.Model.{zeros, idle, reachBack, askReasons, reasons, done, step}
 use Rattle.rules.specs.Calls.{Book, Call, start, on, freshBook, ringOf, call}
 use Rattle.rules.specs.Labels.{beforeOff, compareOff}
@@ -114,15 +114,15 @@ Numbers b ts =
 pub empty-numbers : Numbers empty
     ((start X, 0)
     ∷ (start (setup 1 5 4 2 4 2 2), 2)
-    ∷ (on (local 2), 0)
-    ∷ (on (local 3), 3)
-    ∷ (on (send 3 3), 3)
-    ∷ (on (send 0 0), 4)
-    ∷ (on (receive 0 0), 5)
+    ∷ (on (local 2 true), 0)
+    ∷ (on (local 3 true), 3)
+    ∷ (on (send 3 3 false), 3)
+    ∷ (on (send 0 0 false), 4)
+    ∷ (on (receive 0 0 true), 5)
+    ∷ (on (reset 2 true), 0)
     ∷ (on (discard 0), 5)
     ∷ (on (drop 0), 5)
     ∷ (on (write 0 19), 5)
-    ∷ (on (keep 2), 7)
     ∷ [])
 unfolding call step askReasons reasons done permits inRange related allOf within any lowest
 empty-numbers = refl
@@ -132,15 +132,18 @@ pub crowded-numbers : Numbers crowded
     ∷ (on (drop 31), 0)
     ∷ (on (discard 32), 5)
     ∷ (on (discard 31), 0)
-    ∷ (on (receive 1 32), 5)
-    ∷ (on (receive 2 31), 6)
-    ∷ (on (receive 1 31), 8)
-    ∷ (on (local 1), 8)
-    ∷ (on (send 0 1), 9)
-    ∷ (on (keep 0), 10)
-    ∷ (on (reset 0), 11)
-    ∷ (on (reset 1), 12)
-    ∷ (on (reset 2), 13)
+    ∷ (on (receive 1 32 true), 5)
+    ∷ (on (receive 2 31 true), 6)
+    ∷ (on (receive 1 31 true), 8)
+    ∷ (on (local 1 true), 8)
+    ∷ (on (send 0 1 true), 9)
+    ∷ (on (send 0 1 false), 9)
+    ∷ (on (local 0 true), 10)
+    ∷ (on (local 0 false), 0)
+    ∷ (on (reset 0 true), 10)
+    ∷ (on (reset 0 false), 11)
+    ∷ (on (reset 1 false), 12)
+    ∷ (on (reset 2 false), 13)
     ∷ (on (write 0 19), 15)
     ∷ (on (write 0 20), 0)
     ∷ (on (before 0 1), 16)

@@ -8,18 +8,19 @@ use Prim.Native.Nat.{ℕ, _+_, _*_, _≤_, _<_}
 use native.Mathlib.Omega.{arith}
 use lib.Dec.{eqb}
 use borrow.Author.Tests.{eqb-true, eqb-false, not-true}
+use Rattle.tools.specs.Tables.{Each}
 use Rattle.tools.proofs.Tests.{and-true-l, and-true-r, lt-or-le}
 use Rattle.tools.proofs.Tables.{some-is, none-some}
 use Rattle.ring.specs.Phases.{Phases}
 use Rattle.rules.specs.declared.Setup.{Setup}
 use Rattle.rules.specs.Numbers.{Name, number}
-use Rattle.rules.specs.Model.{Held, Tables, Question, askBefore, askCompare, askShow, askWrite, slotAsked, Act, local, reset, keep}
-use Rattle.rules.specs.Model.{send, receive, ask, why, stamp, shows, freeMail, freeSlot, byIn, rowIn, used, own, lags, seatLags}
+use Rattle.rules.specs.Model.{Held, Tables, Question, askBefore, askCompare, askShow, askWrite, slotAsked, Act, local, reset}
+use Rattle.rules.specs.Model.{send, receive, ask, why, stamp, shows, freeMail, slotFor, byIn, rowIn, used, own, lags, seatLags}
 use Rattle.rules.specs.Model.{askTells}
 use Rattle.rules.specs.Frames.{LowestFree}
-use Rattle.rules.specs.Due.{at-local, at-send, at-sent, at-receive, at-reset, at-keep, by-local, by-send, by-receive, of-receive}
-use Rattle.rules.specs.Due.{OfSlot, of-show, of-write, Gone, lagIn, Due, no-desk, same-desk, no-mail, no-slot, no-event, phase-full}
-use Rattle.rules.specs.Due.{mail-full, shelf-full, seat-behind, mail-behind, shelf-behind}
+use Rattle.rules.specs.Due.{at-local, at-send, at-sent, at-receive, at-reset, by-local, by-send, by-receive, of-receive}
+use Rattle.rules.specs.Due.{OfSlot, of-show, of-write, Gone, lagIn, Due, no-desk, same-desk, no-mail, no-slot, phase-full}
+use Rattle.rules.specs.Due.{ToKeep, keep-local, keep-send, keep-receive, keep-reset, mail-full, shelf-full, seat-behind, mail-behind, shelf-behind}
 use Rattle.rules.proofs.Steps.{step-number}
 use Rattle.rules.proofs.Frames.{lowest-place, lowest-slot}
 use Rattle.rules.proofs.Due.{table}
@@ -36,10 +37,6 @@ off : (t : Bool) → (t ≡ true → ⊥) → t ≡ false
 off true f = absurd (f refl)
 off false f = refl
 
-on : (t : Bool) → (t ≡ false → ⊥) → t ≡ true
-on true f = refl
-on false f = absurd (f refl)
-
 -- a place or slot that is not gone is used; where not all are used, one is free
 there : (p : ℕ) (o : Option Held) → (Gone p o → ⊥) → (used o ≡ true) × (p < 32)
 there p none f = absurd (f (inr refl))
@@ -53,49 +50,60 @@ module _ (Z : Phases) (X : Setup) (b : Tables) where
   none-due : {c : Act} → why Z X b c ≡ 0 → {w : Name} → Due Z X b c w → ⊥
   none-due {c = c} e {w = w} d = table Z X b c .none .0 (step-number Z X b c ∙ e) (number w) (w, refl, d)
 
-  pub no-local : (j : ℕ) → why Z X b (local j) ≡ 0 → (j < X .desks) × (own b j .clock + 1 < X .clocks)
-  no-local j e =
-      (below _ _ (λ l. none-due e (no-desk at-local l)), below _ _ (λ l. none-due e (phase-full by-local l)))
+  -- the slot of an event that is kept is one of the shelf
+  slot-there : (c : Bool → Act) → ToKeep (c true) → (q : Bool) → why Z X b (c q) ≡ 0 → Each (λ s. s < 32) (slotFor b q)
+  slot-there c k true e = one-free (lowest-slot b) (λ h. none-due e (shelf-full k h))
+  slot-there c k false e = tt
 
-  pub no-send : (j k : ℕ) → why Z X b (send j k) ≡ 0
+  pub no-local : (j : ℕ) (q : Bool) → why Z X b (local j q) ≡ 0
+      → (j < X .desks) × (own b j .clock + 1 < X .clocks) × Each (λ s. s < 32) (slotFor b q)
+  no-local j q e = (
+    below _ _ (λ l. none-due e (no-desk at-local l)),
+    below _ _ (λ l. none-due e (phase-full by-local l)),
+    slot-there (local j) keep-local q e,
+  )
+
+  pub no-send : (j k : ℕ) (q : Bool) → why Z X b (send j k q) ≡ 0
       → (j < X .desks) × (own b j .clock + 1 < X .clocks) × (freeMail b < 32) × (k < X .desks) × (j ≡ k → ⊥)
-  no-send j k e = (
+      × Each (λ s. s < 32) (slotFor b q)
+  no-send j k q e = (
     below _ _ (λ l. none-due e (no-desk at-send l)),
     below _ _ (λ l. none-due e (phase-full by-send l)),
     one-free (lowest-place b) (λ h. none-due e (mail-full h)),
     below _ _ (λ l. none-due e (no-desk at-sent l)),
-    λ q. none-due (subst (λ n. why Z X b (send j n) ≡ 0) (sym q) e) same-desk,
+    λ same. none-due (subst (λ n. why Z X b (send j n q) ≡ 0) (sym same) e) same-desk,
+    slot-there (send j k) keep-send q e,
   )
 
-  pub no-receive : (j p : ℕ) → why Z X b (receive j p) ≡ 0
-      → (j < X .desks) × (used (b .mail p) ≡ true) × (own b j .clock + 1 < X .clocks) × (p < 32)
-  no-receive j p e =
-      let t = there p (b .mail p) (λ g. none-due e (no-mail of-receive g)) in
-      (below _ _ (λ l. none-due e (no-desk at-receive l)), t .0, below _ _ (λ l. none-due e (phase-full by-receive l)), t .1)
+  pub no-receive : (j p : ℕ) (q : Bool) → why Z X b (receive j p q) ≡ 0
+      → (j < X .desks) × (used (b .mail p) ≡ true) × (own b j .clock + 1 < X .clocks) × (p < 32) × Each (λ s. s < 32) (slotFor b q)
+  no-receive j p q e =
+      let t = there p (b .mail p) (λ g. none-due e (no-mail of-receive g)) in (
+        below _ _ (λ l. none-due e (no-desk at-receive l)),
+        t .0,
+        below _ _ (λ l. none-due e (phase-full by-receive l)),
+        t .1,
+        slot-there (receive j p) keep-receive q e,
+      )
 
   -- what does not lag just so far
   in-time : (j B : ℕ) (o : Option Held) → ((w : Held) → o ≡ some w → lagIn Z b j w ≡ B → ⊥) → lags Z b j B o ≡ false
   in-time j B none f = refl
   in-time j B (some w) f = off _ (λ t. f w refl (eqb-true _ _ t))
 
-  pub no-reset : (j : ℕ) → why Z X b (reset j) ≡ 0
+  pub no-reset : (j : ℕ) (q : Bool) → why Z X b (reset j q) ≡ 0
       → (j < X .desks)
       × ((s : ℕ) → s < X .desks → seatLags Z b j (X .seatLag) s ≡ false)
       × ((p : ℕ) → p < 32 → lags Z b j (2 * X .seatLag) (b .mail p) ≡ false)
       × ((p : ℕ) → p < 32 → lags Z b j (X .shelfLag) (b .shelf p) ≡ false)
-  no-reset j e = (
+      × Each (λ s. s < 32) (slotFor b q)
+  no-reset j q e = (
     below _ _ (λ l. none-due e (no-desk at-reset l)),
     λ s l. off _ (λ t. none-due e
         (seat-behind l (eqb-false s j (not-true _ (and-true-l _ _ t))) (eqb-true _ _ (and-true-r (not (eqb s j)) _ t)))),
-    λ p l. in-time j _ (b .mail p) (λ w q t. none-due e (mail-behind l q t)),
-    λ s l. in-time j _ (b .shelf s) (λ w q t. none-due e (shelf-behind l q t)),
-  )
-
-  pub no-keep : (j : ℕ) → why Z X b (keep j) ≡ 0 → (j < X .desks) × (b .seat j .started ≡ true) × (freeSlot b < 32)
-  no-keep j e = (
-    below _ _ (λ l. none-due e (no-desk at-keep l)),
-    on _ (λ q. none-due e (no-event q)),
-    one-free (lowest-slot b) (λ h. none-due e (shelf-full h)),
+    λ p l. in-time j _ (b .mail p) (λ w o t. none-due e (mail-behind l o t)),
+    λ s l. in-time j _ (b .shelf s) (λ w o t. none-due e (shelf-behind l o t)),
+    slot-there (reset j) keep-reset q e,
   )
 
   of-slot : (q : Question) (s : ℕ) → slotAsked q ≡ some s → OfSlot (ask q) s

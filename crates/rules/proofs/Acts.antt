@@ -1,7 +1,7 @@
 -- DEMAND 2 on books without bytes: what each accepted act leaves and answers, in any arithmetic.
 -- Assumes nothing.
 use mathlib.Core.Path.{_≡_, refl, ap, sym, _∙_}
-use mathlib.Core.Bool.{true, false, _&&_, _||_}
+use mathlib.Core.Bool.{Bool, true, false, _&&_, _||_}
 use mathlib.Core.Option.{none, some}
 use Prim.Native.Nat.{ℕ, _+_}
 use lib.Dec.{eqb}
@@ -11,9 +11,9 @@ use Rattle.ring.specs.Phases.{Phases, Gap, laterBy, lagGap, later}
 use Rattle.rules.specs.declared.Setup.{Setup}
 use Rattle.rules.specs.declared.Relation.the-variants.{Before, After, Same, Concurrent, Crossed}
 use Rattle.rules.specs.Numbers.{Name}
-use Rattle.rules.specs.Model.{Row, Held, Tables, Act, local, reset, keep, drop, discard, send, receive}
-use Rattle.rules.specs.Model.{before, compare, show, write, nothing, stamp, sent, slot, says, relates, shows, accepted, Result}
-use Rattle.rules.specs.Model.{own, freeMail, freeSlot, grown, merged, turned, near, gapIn, sameBy, isBefore, relation, gapFrom}
+use Rattle.rules.specs.Model.{Row, Held, Tables, Act, local, reset, send, receive, drop, discard}
+use Rattle.rules.specs.Model.{before, compare, show, write, nothing, made, stamp, says, relates, shows, accepted, Result}
+use Rattle.rules.specs.Model.{own, freeMail, freeSlot, slotFor, grown, merged, turned, near, gapIn, sameBy, isBefore, relation, gapFrom}
 use Rattle.rules.specs.Model.{byIn, rowIn, askTells, settle, done, step}
 use Rattle.rules.specs.Due.{Due}
 use Rattle.rules.proofs.Steps.{step-number}
@@ -48,47 +48,58 @@ module _ (Z : Phases) (X : Setup) (b : Tables) where
   pub turned-other : (j k : ℕ) → (k ≡ j → ⊥) → turned Z b j k ≡ b .seat j .row k
   turned-other j k ne = put-other (b .seat j .row) j _ k ne
 
-  -- All four mark the seat started and answer a stamp, owner and row; the row stays in the seat.
+  -- All four mark the seat started and answer a stamp, owner and row, and where it is kept its slot; the row stays in the seat.
   abbrev result : Act → Result
   result c = done Z X b c
 
   abbrev Leaves : ℕ → Row → Act → Type 0
   Leaves j r c = result c .tables .seat j ≡ record { started = true; row = r }
 
-  pub local-leaves : (j : ℕ) → (result (local j) .answer ≡ accepted (stamp j (grown b j))) × Leaves j (grown b j) (local j)
+  pub local-leaves : (j : ℕ) (q : Bool)
+      → (result (local j q) .answer ≡ accepted (made none j (grown b j) (slotFor b q))) × Leaves j (grown b j) (local j q)
   unfolding done
-  local-leaves j = (refl, let e = eq-eqb j j refl in cc)
+  local-leaves j q = (refl, let e = eq-eqb j j refl in cc)
 
-  pub send-leaves : (j k : ℕ)
-      → (result (send j k) .answer ≡ accepted (sent (freeMail b) j (grown b j))) × Leaves j (grown b j) (send j k)
+  pub send-leaves : (j k : ℕ) (q : Bool)
+      → (result (send j k q) .answer ≡ accepted (made (some (freeMail b)) j (grown b j) (slotFor b q)))
+      × Leaves j (grown b j) (send j k q)
   unfolding done
-  send-leaves j k = (refl, let e = eq-eqb j j refl in cc)
+  send-leaves j k q = (refl, let e = eq-eqb j j refl in cc)
 
-  pub receive-leaves : (j p : ℕ) (w : Held) → b .mail p ≡ some w
-      → (result (receive j p) .answer ≡ accepted (stamp j (merged Z b j (w .row))))
-      × Leaves j (merged Z b j (w .row)) (receive j p)
+  pub receive-leaves : (j p : ℕ) (q : Bool) (w : Held) → b .mail p ≡ some w
+      → (result (receive j p q) .answer ≡ accepted (made none j (merged Z b j (w .row)) (slotFor b q)))
+      × Leaves j (merged Z b j (w .row)) (receive j p q)
   unfolding done
-  receive-leaves j p w e = rw e (refl, let e = eq-eqb j j refl in cc)
+  receive-leaves j p q w e = rw e (refl, let e = eq-eqb j j refl in cc)
 
-  pub reset-leaves : (j : ℕ) → (result (reset j) .answer ≡ accepted (stamp j (turned Z b j))) × Leaves j (turned Z b j) (reset j)
+  pub reset-leaves : (j : ℕ) (q : Bool)
+      → (result (reset j q) .answer ≡ accepted (made none j (turned Z b j) (slotFor b q))) × Leaves j (turned Z b j) (reset j q)
   unfolding done
-  reset-leaves j = (refl, let e = eq-eqb j j refl in cc)
+  reset-leaves j q = (refl, let e = eq-eqb j j refl in cc)
 
   -- Send: j's row goes into the lowest free mail place.
-  pub sent-waits : (j k : ℕ) → result (send j k) .tables .mail (freeMail b) ≡ some record { by = j; to = k; row = grown b j }
+  pub sent-waits : (j k : ℕ) (q : Bool)
+      → result (send j k q) .tables .mail (freeMail b) ≡ some record { by = j; to = k; row = grown b j }
   unfolding done
-  sent-waits j k = let e = eq-eqb (freeMail b) (freeMail b) refl in cc
+  sent-waits j k q = let e = eq-eqb (freeMail b) (freeMail b) refl in cc
 
   -- Receive: the place becomes free.
-  pub received-free : (j p : ℕ) → result (receive j p) .tables .mail p ≡ none
+  pub received-free : (j p : ℕ) (q : Bool) → result (receive j p q) .tables .mail p ≡ none
   unfolding done
-  received-free j p = let e = eq-eqb p p refl in cc
+  received-free j p q = let e = eq-eqb p p refl in cc
 
-  -- Keep at j copies j's present row to the lowest free slot and answers the slot.
-  pub kept-waits : (j : ℕ) → (result (keep j) .answer ≡ accepted (slot (freeSlot b)))
-      × (result (keep j) .tables .shelf (freeSlot b) ≡ some record { by = j; to = 0; row = b .seat j .row })
+  -- An event that is kept puts the row that it leaves into the lowest free slot; one that is not gives no slot.
+  pub kept-slot : (slotFor b true ≡ some (freeSlot b)) × (slotFor b false ≡ none)
+  kept-slot = (refl, refl)
+
+  abbrev Shelved : ℕ → Row → Act → Type 0
+  Shelved j r c = result c .tables .shelf (freeSlot b) ≡ some record { by = j; to = 0; row = r }
+
+  pub kept-waits : (j k p : ℕ) (w : Held) → b .mail p ≡ some w
+      → Shelved j (grown b j) (local j true) × Shelved j (grown b j) (send j k true)
+      × Shelved j (merged Z b j (w .row)) (receive j p true) × Shelved j (turned Z b j) (reset j true)
   unfolding done
-  kept-waits j = (refl, let e = eq-eqb (freeSlot b) (freeSlot b) refl in cc)
+  kept-waits j k p w m = let e = eq-eqb (freeSlot b) (freeSlot b) refl in (cc, cc, rw m cc, cc)
 
   -- Drop and discard free a slot or a place, and answer nothing more.
   pub dropped-free : (s : ℕ) → (result (drop s) .answer ≡ accepted nothing) × (result (drop s) .tables .shelf s ≡ none)

@@ -8,7 +8,7 @@ use Prim.Native.Nat.{ℕ, _+_, _*_, _≤_, _<_}
 use native.Mathlib.Omega.{arith}
 use lib.Dec.{ltb, eqb}
 use borrow.Author.Tests.{eqb-true, eqb-false, eq-eqb, ne-eqb, ltb-true, ltb-false, lt-ltb, le-ltb, not-true}
-use Rattle.tools.specs.Tests.{any}
+use Rattle.tools.specs.Tests.{pick, any}
 use Rattle.tools.specs.Reasons.{Holds, Smallest}
 use Rattle.tools.proofs.Reasons.{smallest-swap}
 use Rattle.tools.proofs.Tests.{and-true-l, and-true-r, and-false, any-at, any-true, lt-or-le}
@@ -16,16 +16,19 @@ use Rattle.ring.specs.Phases.{Phases, Gap}
 use Rattle.rules.specs.declared.Setup.{Setup}
 use Rattle.rules.specs.Numbers.{Name, NoDesk, SameDesk, NoPlace, NotYours, NoEvent, PhaseFull, MailFull, ShelfFull, SeatBehind}
 use Rattle.rules.specs.Numbers.{MailBehind, ShelfBehind, NoRoom, OutOfReach, number}
-use Rattle.rules.specs.Model.{Held, Tables, Act, local, reset, keep, drop, discard, send, receive, ask, askBefore, askCompare, askShow, askWrite, before, compare, step}
-use Rattle.rules.specs.Model.{used, toIn, own, atLimit, lags, near, isOut, gapHeld, askReasons, reasons}
-use Rattle.rules.specs.Due.{at-local, at-send, at-sent, at-receive, at-reset, at-keep, by-local, by-send, by-receive, of-receive}
-use Rattle.rules.specs.Due.{of-discard, OfSlot, of-drop, of-before, of-before′, of-compare, of-compare′, of-show, of-write, Asks}
+use Rattle.rules.specs.Model.{Held, Tables, Label, Act, local, reset, send, receive, drop, discard, ask, askBefore, askCompare, askShow, askWrite, before, compare, step}
+use Rattle.rules.specs.Model.{refusal, used, freeSlot, toIn, own, atLimit, lags, near, isOut, gapHeld, askReasons, reasons}
+use Rattle.rules.specs.Due.{at-local, at-send, at-sent, at-receive, at-reset, by-local, by-send, by-receive, of-receive}
+use Rattle.rules.specs.Due.{ToKeep, keep-local, keep-send, keep-receive, keep-reset, of-discard, OfSlot, of-drop, of-before, of-before′, of-compare, of-compare′, of-show, of-write, Asks}
 use Rattle.rules.specs.Due.{asks-before, asks-compare, asks-back, Gone, lagIn, Due, no-desk, same-desk, no-mail, no-slot}
-use Rattle.rules.specs.Due.{not-yours, no-event, phase-full, mail-full, shelf-full, seat-behind, mail-behind, shelf-behind, no-room}
+use Rattle.rules.specs.Due.{not-yours, phase-full, mail-full, shelf-full, seat-behind, mail-behind, shelf-behind, no-room}
 use Rattle.rules.specs.Due.{out-of-reach, DueNumber}
 use Rattle.rules.specs.Frames.{LowestFree}
+use Rattle.rules.specs.Setups.{permits}
+use Rattle.rules.specs.Labels.{reasonsOff, beforeOff, compareOff}
+use Rattle.rules.specs.Calls.{Book, Call, start, on, freshBook, settled, call}
 use Rattle.rules.proofs.Frames.{lowest-place, lowest-slot}
-use Rattle.rules.proofs.Reasons.{act-number}
+use Rattle.rules.proofs.Reasons.{act-number, before-due, compare-due}
 
 -- each test of the list, and what its row says
 at-least : (a n : ℕ) → n ≤ a → not (ltb a n) ≡ true
@@ -102,7 +105,6 @@ module _ (Z : Phases) (X : Setup) (b : Tables) where
   listed (no-desk (at-sent {j = j} {k = k}) l) = inl (refl, or-right (not (ltb j (X .desks))) _ (at-least k (X .desks) l))
   listed (no-desk (at-receive {j = j}) l) = inl (refl, at-least j (X .desks) l)
   listed (no-desk (at-reset {j = j}) l) = inl (refl, at-least j (X .desks) l)
-  listed (no-desk (at-keep {j = j}) l) = inl (refl, at-least j (X .desks) l)
   listed (same-desk {j = j}) = inr (inl (refl, eq-eqb j j refl))
   listed (no-mail (of-receive {p = p}) g) = inr (inl (refl, gone-test p (b .mail p) g))
   listed (no-mail (of-discard {p = p}) g) = inl (refl, gone-test p (b .mail p) g)
@@ -116,20 +118,23 @@ module _ (Z : Phases) (X : Setup) (b : Tables) where
   listed (no-slot (of-show {s = s}) g) = inl (refl, gone-test s (b .shelf s) g)
   listed (no-slot (of-write {s = s}) g) = inl (refl, gone-test s (b .shelf s) g)
   listed (not-yours {j = j} {p = p} {w = w} e ne) = inr (inr (inl (refl, rw e (ap not (ne-eqb (w .to) j ne)))))
-  listed (no-event e) = inr (inl (refl, ap not e))
   listed (phase-full (by-local {j = j}) l) = inr (inl (refl, at-limit j l))
   listed (phase-full (by-send {j = j}) l) = inr (inr (inl (refl, at-limit j l)))
   listed (phase-full (by-receive {j = j}) l) = inr (inr (inr (inl (refl, at-limit j l))))
   listed (mail-full h) = inr (inr (inr (inl (refl, full (lowest-place b) h))))
-  listed (shelf-full h) = inr (inr (inl (refl, full (lowest-slot b) h)))
+  listed (shelf-full keep-local h) = inr (inr (inl (refl, full (lowest-slot b) h)))
+  listed (shelf-full keep-send h) = inr (inr (inr (inr (inl (refl, full (lowest-slot b) h)))))
+  listed (shelf-full keep-receive h) = inr (inr (inr (inr (inl (refl, full (lowest-slot b) h)))))
+  listed (shelf-full keep-reset h) = inr (inl (refl, full (lowest-slot b) h))
   listed (seat-behind {j = j} {k = k} l ne q) =
-      inr (inl (
+      inr (inr (inl (
         refl,
         any-at (X .desks) (λ s. not (eqb s j) && eqb (Z .lag (own b j .phase) (b .seat s .row j .phase)) (X .seatLag)) k l
             (rw (ne-eqb k j ne) (eq-eqb _ _ q)),
-      ))
-  listed (mail-behind {j = j} {p = p} {w = w} l e q) = inr (inr (inl (refl, behind j (2 * X .seatLag) (b .mail) p w l e q)))
-  listed (shelf-behind {j = j} {s = s} {w = w} l e q) = inr (inr (inr (inl (refl, behind j (X .shelfLag) (b .shelf) s w l e q))))
+      )))
+  listed (mail-behind {j = j} {p = p} {w = w} l e q) = inr (inr (inr (inl (refl, behind j (2 * X .seatLag) (b .mail) p w l e q))))
+  listed (shelf-behind {j = j} {s = s} {w = w} l e q) =
+      inr (inr (inr (inr (inl (refl, behind j (X .shelfLag) (b .shelf) s w l e q)))))
   listed (no-room {room = room} l) = inr (inl (refl, lt-ltb room 20 l))
   listed (out-of-reach (asks-before {s = s} {t = t}) e f g) = inr (inl (refl, out-test s t _ _ e f g))
   listed (out-of-reach (asks-compare {s = s} {t = t}) e f g) = inr (inl (refl, or-left _ _ (out-test s t _ _ e f g)))
@@ -160,43 +165,49 @@ module _ (Z : Phases) (X : Setup) (b : Tables) where
       go (inl h) = due NoPlace q (no-slot os (is-gone s (b .shelf s) h))
       go (inr h) = due NoPlace q (no-slot ot (is-gone t (b .shelf t) h))
 
+  -- an event that is not kept asks nothing of the shelf
+  no-shelf : (c : Bool → Act) → ToKeep (c true) → (t : Bool) (k : ℕ) → 10 ≡ k
+      → (t && not (ltb (freeSlot b) 32)) ≡ true → Down (c t) k
+  no-shelf c w true k q h = due ShelfFull q (shelf-full w (is-full (lowest-slot b) h))
+  no-shelf c w false k q h = absurd (false≢true h)
+
   told : (c : Act) (k : ℕ) → Holds (reasons Z X b c) k → Down c k
   unfolding reasons askReasons
-  told (local j) k (inl (q, h)) = due NoDesk q (no-desk at-local (is-least _ _ h))
-  told (local j) k (inr (inl (q, h))) = due PhaseFull q (phase-full by-local (is-at-limit j h))
-  told (local j) k (inr (inr h)) = absurd h
-  told (send j i) k (inl (q, h)) = go (either (not (ltb j (X .desks))) _ h)
+  told (local j t) k (inl (q, h)) = due NoDesk q (no-desk at-local (is-least _ _ h))
+  told (local j t) k (inr (inl (q, h))) = due PhaseFull q (phase-full by-local (is-at-limit j h))
+  told (local j t) k (inr (inr (inl (q, h)))) = no-shelf (local j) keep-local t k q h
+  told (local j t) k (inr (inr (inr h))) = absurd h
+  told (send j i t) k (inl (q, h)) = go (either (not (ltb j (X .desks))) _ h)
     where
-      go : (not (ltb j (X .desks)) ≡ true) ⊎ (not (ltb i (X .desks)) ≡ true) → Down (send j i) k
+      go : (not (ltb j (X .desks)) ≡ true) ⊎ (not (ltb i (X .desks)) ≡ true) → Down (send j i t) k
       go (inl h) = due NoDesk q (no-desk at-send (is-least _ _ h))
       go (inr h) = due NoDesk q (no-desk at-sent (is-least _ _ h))
-  told (send j i) k (inr (inl (q, h))) = due SameDesk q (rw (← (eqb-true j i h)) same-desk)
-  told (send j i) k (inr (inr (inl (q, h)))) = due PhaseFull q (phase-full by-send (is-at-limit j h))
-  told (send j i) k (inr (inr (inr (inl (q, h))))) = due MailFull q (mail-full (is-full (lowest-place b) h))
-  told (send j i) k (inr (inr (inr (inr h)))) = absurd h
-  told (receive j p) k (inl (q, h)) = due NoDesk q (no-desk at-receive (is-least _ _ h))
-  told (receive j p) k (inr (inl (q, h))) = due NoPlace q (no-mail of-receive (is-gone p (b .mail p) h))
-  told (receive j p) k (inr (inr (inl (q, h)))) = go (b .mail p) refl h
+  told (send j i t) k (inr (inl (q, h))) = due SameDesk q (rw (← (eqb-true j i h)) same-desk)
+  told (send j i t) k (inr (inr (inl (q, h)))) = due PhaseFull q (phase-full by-send (is-at-limit j h))
+  told (send j i t) k (inr (inr (inr (inl (q, h))))) = due MailFull q (mail-full (is-full (lowest-place b) h))
+  told (send j i t) k (inr (inr (inr (inr (inl (q, h)))))) = no-shelf (send j i) keep-send t k q h
+  told (send j i t) k (inr (inr (inr (inr (inr h))))) = absurd h
+  told (receive j p t) k (inl (q, h)) = due NoDesk q (no-desk at-receive (is-least _ _ h))
+  told (receive j p t) k (inr (inl (q, h))) = due NoPlace q (no-mail of-receive (is-gone p (b .mail p) h))
+  told (receive j p t) k (inr (inr (inl (q, h)))) = go (b .mail p) refl h
     where
-      go : (o : Option Held) → b .mail p ≡ o → not (eqb (toIn o) j) ≡ true → Down (receive j p) k
+      go : (o : Option Held) → b .mail p ≡ o → not (eqb (toIn o) j) ≡ true → Down (receive j p t) k
       go none e h = (5, omega arith, (NoPlace, refl, no-mail of-receive (inr e)))
       go (some w) e h = due NotYours q (not-yours e (eqb-false (w .to) j (not-true _ h)))
-  told (receive j p) k (inr (inr (inr (inl (q, h))))) = due PhaseFull q (phase-full by-receive (is-at-limit j h))
-  told (receive j p) k (inr (inr (inr (inr h)))) = absurd h
-  told (reset j) k (inl (q, h)) = due NoDesk q (no-desk at-reset (is-least _ _ h))
-  told (reset j) k (inr (inl (q, h))) =
+  told (receive j p t) k (inr (inr (inr (inl (q, h))))) = due PhaseFull q (phase-full by-receive (is-at-limit j h))
+  told (receive j p t) k (inr (inr (inr (inr (inl (q, h)))))) = no-shelf (receive j p) keep-receive t k q h
+  told (receive j p t) k (inr (inr (inr (inr (inr h))))) = absurd h
+  told (reset j t) k (inl (q, h)) = due NoDesk q (no-desk at-reset (is-least _ _ h))
+  told (reset j t) k (inr (inl (q, h))) = no-shelf (reset j) keep-reset t k q h
+  told (reset j t) k (inr (inr (inl (q, h)))) =
       let s = any-true (X .desks) _ h in
       due SeatBehind q
       (seat-behind (s .1) (eqb-false _ _ (not-true _ (and-true-l _ _ (s .2)))) (eqb-true _ _ (and-true-r (not (eqb (s .0) j)) _ (s .2))))
-  told (reset j) k (inr (inr (inl (q, h)))) =
+  told (reset j t) k (inr (inr (inr (inl (q, h))))) =
       let s = is-behind j (2 * X .seatLag) (b .mail) h in due MailBehind q (mail-behind (s .2) (s .3) (s .4))
-  told (reset j) k (inr (inr (inr (inl (q, h))))) =
+  told (reset j t) k (inr (inr (inr (inr (inl (q, h)))))) =
       let s = is-behind j (X .shelfLag) (b .shelf) h in due ShelfBehind q (shelf-behind (s .2) (s .3) (s .4))
-  told (reset j) k (inr (inr (inr (inr h)))) = absurd h
-  told (keep j) k (inl (q, h)) = due NoDesk q (no-desk at-keep (is-least _ _ h))
-  told (keep j) k (inr (inl (q, h))) = due NoEvent q (no-event (not-true _ h))
-  told (keep j) k (inr (inr (inl (q, h)))) = due ShelfFull q (shelf-full (is-full (lowest-slot b) h))
-  told (keep j) k (inr (inr (inr h))) = absurd h
+  told (reset j t) k (inr (inr (inr (inr (inr h))))) = absurd h
   told (drop s) k (inl (q, h)) = due NoPlace q (no-slot of-drop (is-gone s (b .shelf s) h))
   told (drop s) k (inr h) = absurd h
   told (discard p) k (inl (q, h)) = due NoPlace q (no-mail of-discard (is-gone p (b .mail p) h))
@@ -224,3 +235,46 @@ module _ (Z : Phases) (X : Setup) (b : Tables) where
   -- THE PROMISE: the smallest number whose row is due is given, and none is given without its reason
   pub table : (c : Act) → Smallest (DueNumber Z X b c) (step Z X b c .answer .number)
   table c = smallest-swap (Holds (reasons Z X b c)) (DueNumber Z X b c) _ (act-number Z X b c) (told c) (back c)
+
+  -- NoEvent is due to no act
+  no-event : {c : Act} {w : Name} → Due Z X b c w → number w ≡ number NoEvent → ⊥
+  no-event (no-desk a l) e = absurd (omega arith)
+  no-event same-desk e = absurd (omega arith)
+  no-event (no-mail o g) e = absurd (omega arith)
+  no-event (no-slot o g) e = absurd (omega arith)
+  no-event (not-yours m ne) e = absurd (omega arith)
+  no-event (phase-full t l) e = absurd (omega arith)
+  no-event (mail-full h) e = absurd (omega arith)
+  no-event (shelf-full t h) e = absurd (omega arith)
+  no-event (seat-behind l ne q) e = absurd (omega arith)
+  no-event (mail-behind l m q) e = absurd (omega arith)
+  no-event (shelf-behind l m q) e = absurd (omega arith)
+  no-event (no-room l) e = absurd (omega arith)
+  no-event (out-of-reach a m n g) e = absurd (omega arith)
+
+  act-no-event : (c : Act) → step Z X b c .answer .number ≡ number NoEvent → ⊥
+  act-no-event c e = let d = table c .due 7 (omega arith) .0 e .0 in no-event (d .2) (d .1)
+
+-- THE PROMISE: NoEvent is given to no call, in any arithmetic
+pub call-no-event : (Z : Setup → Phases) (b : Book) (c : Call) → call Z b c .answer .number ≡ number NoEvent → ⊥
+unfolding call
+call-no-event Z b (start X) e = go (permits X) e
+  where
+    go : (t : Bool) → settled (pick (not t) 2 0) b (record { answer = refusal 0; book = freshBook X }) .answer .number ≡ 7 → ⊥
+    go true e = absurd (omega arith)
+    go false e = absurd (omega arith)
+call-no-event Z b (on c) e = act-no-event (Z (b .setup)) (b .setup) (b .tables) c e
+
+-- and off the book, whatever the records
+off-reasons : (X : Setup) (e f : Option Label) (out : Bool) → Holds (reasonsOff X e f out) (number NoEvent) → ⊥
+off-reasons X e f out (inl (q, h)) = absurd (omega arith)
+off-reasons X e f out (inr (inl (q, h))) = absurd (omega arith)
+off-reasons X e f out (inr (inr (inl (q, h)))) = absurd (omega arith)
+off-reasons X e f out (inr (inr (inr h))) = absurd h
+
+pub off-no-event : (X : Setup) (e f : Option Label)
+    → (beforeOff X e f .number ≡ number NoEvent → ⊥) × (compareOff X e f .number ≡ number NoEvent → ⊥)
+off-no-event X e f = (
+  λ q. off-reasons X e f _ (before-due X e f .due 7 (omega arith) .0 q .0),
+  λ q. off-reasons X e f _ (compare-due X e f .due 7 (omega arith) .0 q .0),
+)

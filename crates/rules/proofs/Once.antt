@@ -6,8 +6,9 @@ use native.Mathlib.Omega.{arith}
 use borrow.Author.Tests.{ne-eqb}
 use lib.Dec.{eqb}
 use lib.ListN.{length}
+use mathlib.Core.Option.{Option, none, some}
 use Rattle.tools.specs.Tests.{pick}
-use Rattle.tools.proofs.Tables.{some-is}
+use Rattle.tools.proofs.Tables.{some-is, none-some}
 use Rattle.rules.specs.declared.Stamp.{Stamp}
 use Rattle.rules.specs.declared.Stamped.{Stamped}
 use Rattle.rules.specs.declared.Sent.{Sent}
@@ -19,15 +20,12 @@ use Rattle.rules.specs.declared.Told.{Told}
 use Rattle.rules.specs.declared.Told.the-variants as Tells
 use Rattle.rules.specs.declared.Compared.{Compared}
 use Rattle.rules.specs.declared.Compared.the-variants as Compares
-use Rattle.rules.specs.Model.{Label, Value, stamp, Answer, refusal, accepted}
-use Rattle.rules.specs.Replies.{rowOf, stampedSays, postedSays, keptSays, toldSays, comparedSays, Beside, BesidePost}
+use Rattle.rules.specs.Model.{Label, Value, made, Answer, refusal, accepted}
+use Rattle.rules.specs.Replies.{rowOf, slotIn, stampedSays, postedSays, toldSays, comparedSays, Beside, BesidePost}
 use Rattle.rules.proofs.RowBytes.{row-once}
 
 same-stamp : (a b : Answer) → a ≡ b → a .value .stamp ≡ b .value .stamp
 same-stamp a b e = ap (λ (a : Answer). a .value .stamp) e
-
-same-slot : (a b : Answer) → a ≡ b → a .value .slot ≡ b .value .slot
-same-slot a b e = ap (λ (a : Answer). a .value .slot) e
 
 same-verdict : (a b : Answer) → a ≡ b → a .value .verdict ≡ b .value .verdict
 same-verdict a b e = ap (λ (a : Answer). a .value .verdict) e
@@ -38,13 +36,6 @@ same-relation a b e = ap (λ (a : Answer). a .value .relation) e
 -- start, drop and discard
 pub number-once : (n n′ : ℕ) → refusal n ≡ refusal n′ → n ≡ n′
 number-once n n′ e = ap (λ (a : Answer). a .number) e
-
--- keep
-pub kept-once : (r r′ : Kept) → keptSays r ≡ keptSays r′ → r ≡ r′
-kept-once (Keeps.Slot s) (Keeps.Slot s′) e = let v = same-slot _ _ e in cc
-kept-once (Keeps.Slot s) (Keeps.Refused n) e = let v = same-slot _ _ e in cc
-kept-once (Keeps.Refused n) (Keeps.Slot s) e = let v = same-slot _ _ e in cc
-kept-once (Keeps.Refused n) (Keeps.Refused n′) e = let n = number-once _ _ e in cc
 
 -- before
 pub told-once : (r r′ : Told) → toldSays r ≡ toldSays r′ → r ≡ r′
@@ -70,53 +61,69 @@ stamp-once : (x x′ : Stamp) → length (x .row) ≡ 16 → length (x′ .row) 
     → x ≡ x′
 stamp-once x x′ n n′ o e = let r = row-once (x .row) (x′ .row) n n′ e in λ i. record { owner = o i; row = r i }
 
+-- a slot, or none
+slot-once : (k k′ : Kept) → slotIn k ≡ slotIn k′ → k ≡ k′
+slot-once Keeps.No Keeps.No e = refl
+slot-once Keeps.No (Keeps.In s) e = absurd (none-some e)
+slot-once (Keeps.In s) Keeps.No e = absurd (none-some (sym e))
+slot-once (Keeps.In s) (Keeps.In s′) e = ap Keeps.In (some-is e)
+
+-- the stamp and the slot in the answer to an event
+made-once : (x x′ : Stamp) (k k′ : Kept) (p p′ : Option ℕ) → length (x .row) ≡ 16 → length (x′ .row) ≡ 16
+    → accepted (made p (x .owner) (rowOf (x .row)) (slotIn k)) ≡ accepted (made p′ (x′ .owner) (rowOf (x′ .row)) (slotIn k′))
+    → (x ≡ x′) × (k ≡ k′)
+made-once x x′ k k′ p p′ l l′ e =
+    let v = some-is (ap (λ (a : Answer). a .value .stamp) e) in
+    let o = ap (λ (l : Label). l .owner) v in
+    let q = ap (λ (l : Label). l .row) v in
+    (stamp-once x x′ l l′ o q, slot-once k k′ (ap (λ (a : Answer). a .value .slot) e))
+
 -- local, receive and reset
 said : (n : ℕ) (v : Value) → (pick (eqb n 0) (accepted v) (refusal n)) .number ≡ n
 said zero v = refl
 said (suc n) v = rw (ne-eqb (suc n) 0 (omega arith))
 
-pub stamped-once : (r r′ : Stamped) → stampedSays r ≡ stampedSays r′ → Beside (r .number) (r .stamp) → Beside (r′ .number) (r′ .stamp)
+abbrev Answers : ℕ → Stamp → Kept → Answer
+Answers n x k = pick (eqb n 0) (accepted (made none (x .owner) (rowOf (x .row)) (slotIn k))) (refusal n)
+
+pub stamped-once : (r r′ : Stamped) → stampedSays r ≡ stampedSays r′
+    → Beside (r .number) (r .stamp) (r .kept) → Beside (r′ .number) (r′ .stamp) (r′ .kept)
     → length (r .stamp .row) ≡ 16 → length (r′ .stamp .row) ≡ 16 → r ≡ r′
 unfolding stampedSays
 stamped-once r r′ e b b′ l l′ =
-    go (r .number) (r .stamp) (r′ .number) (r′ .stamp)
+    go (r .number) (r .stamp) (r .kept) (r′ .number) (r′ .stamp) (r′ .kept)
     (sym (said (r .number) _) ∙ ap (λ (a : Answer). a .number) e ∙ said (r′ .number) _) e b b′ l l′
   where
-    go : (n : ℕ) (x : Stamp) (n′ : ℕ) (x′ : Stamp) → n ≡ n′
-        → pick (eqb n 0) (accepted (stamp (x .owner) (rowOf (x .row)))) (refusal n)
-        ≡ pick (eqb n′ 0) (accepted (stamp (x′ .owner) (rowOf (x′ .row)))) (refusal n′)
-        → Beside n x → Beside n′ x′ → length (x .row) ≡ 16 → length (x′ .row) ≡ 16
-        → _≡_ {A = Stamped} (record { number = n; stamp = x }) (record { number = n′; stamp = x′ })
-    go zero x zero x′ m e b b′ l l′ =
-        let v = some-is (same-stamp _ _ e) in
-        let o = ap (λ (l : Label). l .owner) v in
-        let q = ap (λ (l : Label). l .row) v in
-        ap (λ (y : Stamp). record { number = 0; stamp = y }) (stamp-once x x′ l l′ o q)
-    go zero x (suc n′) x′ m e b b′ l l′ = absurd (omega arith)
-    go (suc n) x zero x′ m e b b′ l l′ = absurd (omega arith)
-    go (suc n) x (suc n′) x′ m e b b′ l l′ =
-        let q : x ≡ x′ = cc in
-        λ i. record { number = m i; stamp = q i }
+    go : (n : ℕ) (x : Stamp) (k : Kept) (n′ : ℕ) (x′ : Stamp) (k′ : Kept) → n ≡ n′
+        → Answers n x k ≡ Answers n′ x′ k′ → Beside n x k → Beside n′ x′ k′ → length (x .row) ≡ 16 → length (x′ .row) ≡ 16
+        → _≡_ {A = Stamped} (record { number = n; stamp = x; kept = k }) (record { number = n′; stamp = x′; kept = k′ })
+    go zero x k zero x′ k′ m e b b′ l l′ =
+        let q = made-once x x′ k k′ none none l l′ e in
+        λ i. record { number = 0; stamp = q .0 i; kept = q .1 i }
+    go zero x k (suc n′) x′ k′ m e b b′ l l′ = absurd (omega arith)
+    go (suc n) x k zero x′ k′ m e b b′ l l′ = absurd (omega arith)
+    go (suc n) x k (suc n′) x′ k′ m e b b′ l l′ =
+        let q : x ≡ x′ = b .0 ∙ sym (b′ .0) in
+        let t : k ≡ k′ = b .1 ∙ sym (b′ .1) in
+        λ i. record { number = m i; stamp = q i; kept = t i }
 
 -- send
-pub sent-once : (r r′ : Sent) → postedSays (r .place) (r .stamp) ≡ postedSays (r′ .place) (r′ .stamp)
-    → BesidePost (r .place) (r .stamp) → BesidePost (r′ .place) (r′ .stamp)
+pub sent-once : (r r′ : Sent) → postedSays (r .place) (r .stamp) (r .kept) ≡ postedSays (r′ .place) (r′ .stamp) (r′ .kept)
+    → BesidePost (r .place) (r .stamp) (r .kept) → BesidePost (r′ .place) (r′ .stamp) (r′ .kept)
     → length (r .stamp .row) ≡ 16 → length (r′ .stamp .row) ≡ 16 → r ≡ r′
-sent-once r r′ e b b′ l l′ = go (r .place) (r .stamp) (r′ .place) (r′ .stamp) e b b′ l l′
+sent-once r r′ e b b′ l l′ = go (r .place) (r .stamp) (r .kept) (r′ .place) (r′ .stamp) (r′ .kept) e b b′ l l′
   where
-    go : (p : Posted) (x : Stamp) (p′ : Posted) (x′ : Stamp) → postedSays p x ≡ postedSays p′ x′ → BesidePost p x → BesidePost p′ x′
-        → length (x .row) ≡ 16 → length (x′ .row) ≡ 16
-        → _≡_ {A = Sent} (record { place = p; stamp = x }) (record { place = p′; stamp = x′ })
-    go (Posts.At p) x (Posts.At p′) x′ e b b′ l l′ =
-        let v = some-is (same-stamp _ _ e) in
+    go : (p : Posted) (x : Stamp) (k : Kept) (p′ : Posted) (x′ : Stamp) (k′ : Kept) → postedSays p x k ≡ postedSays p′ x′ k′
+        → BesidePost p x k → BesidePost p′ x′ k′ → length (x .row) ≡ 16 → length (x′ .row) ≡ 16
+        → _≡_ {A = Sent} (record { place = p; stamp = x; kept = k }) (record { place = p′; stamp = x′; kept = k′ })
+    go (Posts.At p) x k (Posts.At p′) x′ k′ e b b′ l l′ =
+        let q = made-once x x′ k k′ (some p) (some p′) l l′ e in
         let m = some-is (ap (λ (a : Answer). a .value .place) e) in
-        let o = ap (λ (l : Label). l .owner) v in
-        let q = ap (λ (l : Label). l .row) v in
-        let t = stamp-once x x′ l l′ o q in
-        λ i. record { place = Posts.At (m i); stamp = t i }
-    go (Posts.At p) x (Posts.Refused n) x′ e b b′ l l′ = let v = same-stamp _ _ e in cc
-    go (Posts.Refused n) x (Posts.At p) x′ e b b′ l l′ = let v = same-stamp _ _ e in cc
-    go (Posts.Refused n) x (Posts.Refused n′) x′ e b b′ l l′ =
+        λ i. record { place = Posts.At (m i); stamp = q .0 i; kept = q .1 i }
+    go (Posts.At p) x k (Posts.Refused n) x′ k′ e b b′ l l′ = let v = same-stamp _ _ e in cc
+    go (Posts.Refused n) x k (Posts.At p) x′ k′ e b b′ l l′ = let v = same-stamp _ _ e in cc
+    go (Posts.Refused n) x k (Posts.Refused n′) x′ k′ e b b′ l l′ =
         let m = number-once n n′ e in
-        let t : x ≡ x′ = cc in
-        λ i. record { place = Posts.Refused (m i); stamp = t i }
+        let q : x ≡ x′ = b .0 ∙ sym (b′ .0) in
+        let t : k ≡ k′ = b .1 ∙ sym (b′ .1) in
+        λ i. record { place = Posts.Refused (m i); stamp = q i; kept = t i }

@@ -11,7 +11,7 @@ use native.Mathlib.Omega.{arith}
 use Rattle.ring.specs.Phases.{Phases}
 use Rattle.rules.specs.declared.Setup.{Setup}
 use Rattle.rules.specs.Numbers.{BadBook, number}
-use Rattle.rules.specs.Model.{Tables, Question, askBefore, askCompare, askShow, askWrite, Act, local, reset, keep, drop, discard, send, receive, ask, Value}
+use Rattle.rules.specs.Model.{Tables, Question, askBefore, askCompare, askShow, askWrite, Act, local, reset, send, receive, drop, discard, ask, Value}
 use Rattle.rules.specs.Model.{refusal, isOut, askReasons, reasons, step}
 use Rattle.rules.specs.Calls.{reasonsOf, Book, Call, start, on, Turn, settled, turnOf, call}
 use Rattle.rules.specs.Model.{Label}
@@ -28,11 +28,10 @@ module _ (Z : Phases) (X : Setup) (b : Tables) where
 
   rising : (c : Act) → rises 1 (reasons Z X b c) ≡ true
   unfolding reasons
-  rising (local j) = refl
-  rising (send j k) = refl
-  rising (receive j p) = refl
-  rising (reset j) = refl
-  rising (keep j) = refl
+  rising (local j q) = refl
+  rising (send j k q) = refl
+  rising (receive j p q) = refl
+  rising (reset j q) = refl
   rising (drop s) = refl
   rising (discard p) = refl
   rising (ask q) = ask-rising q

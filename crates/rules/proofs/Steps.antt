@@ -4,17 +4,16 @@ use mathlib.Core.Path.{_≡_, refl, ap, _∙_}
 use Prim.Native.Nat.{ℕ, zero, suc}
 use Rattle.ring.specs.Phases.{Phases}
 use Rattle.rules.specs.declared.Setup.{Setup}
-use Rattle.rules.specs.Model.{Tables, Act, local, reset, keep, drop, discard, send, receive, ask, refusal}
+use Rattle.rules.specs.Model.{Tables, Act, local, reset, send, receive, drop, discard, ask, refusal}
 use Rattle.rules.specs.Model.{Result, step, done, why, settle}
 
 module _ (Z : Phases) (X : Setup) (b : Tables) (c : Act) where
   done-zero : (c : Act) → done Z X b c .answer .number ≡ 0
   unfolding done
-  done-zero (local j) = refl
-  done-zero (send j k) = refl
-  done-zero (receive j p) = refl
-  done-zero (reset j) = refl
-  done-zero (keep j) = refl
+  done-zero (local j q) = refl
+  done-zero (send j k q) = refl
+  done-zero (receive j p q) = refl
+  done-zero (reset j q) = refl
   done-zero (drop s) = refl
   done-zero (discard p) = refl
   done-zero (ask q) = refl

@@ -1,7 +1,8 @@
 -- The answer table, row by row: when a name is due to an act.
--- Assumes nothing. In words: docs/RULES.md, "Answer numbers". BadBook is for the bytes, BadLine for the program.
+-- Assumes nothing. In words: docs/RULES.md, "Answer numbers". BadBook is for the bytes, BadLine for the program; NoEvent is never due.
 --   AtDesk c j          the act c names the desk j
 --   Ticks c j           c is local, send or receive at the desk j
+--   ToKeep c            c is an event whose stamp is to be kept
 --   OfMail c p          c names the mail place p
 --   OfSlot c s          c names the shelf slot s
 --   Asks c s t          c asks about the stamp in slot s and the one in slot t, in this order
@@ -10,7 +11,7 @@
 --   Due Z X b c w       the name w is due to the act c
 --   DueNumber Z X b c n   a name of the number n is due
 use mathlib.Core.Path.{_≡_}
-use mathlib.Core.Bool.{true, false}
+use mathlib.Core.Bool.{Bool, true}
 use mathlib.Core.Option.{Option, none, some}
 use mathlib.Core.Logic.{_⊎_}
 use Prim.Native.Nat.{ℕ, _+_, _*_, _≤_, _<_}
@@ -22,7 +23,6 @@ use Rattle.rules.specs.Numbers.{
   SameDesk,
   NoPlace,
   NotYours,
-  NoEvent,
   PhaseFull,
   MailFull,
   ShelfFull,
@@ -33,24 +33,29 @@ use Rattle.rules.specs.Numbers.{
   OutOfReach,
   number,
 }
-use Rattle.rules.specs.Model.{Held, Tables, Act, local, reset, keep, drop, discard, send, receive}
+use Rattle.rules.specs.Model.{Held, Tables, Act, local, reset, send, receive, drop, discard}
 use Rattle.rules.specs.Model.{before, compare, show, write, used, own, near}
 
 pub data AtDesk : Act → ℕ → Type 0 where
-  at-local : {j : ℕ} → AtDesk (local j) j
-  at-send : {j k : ℕ} → AtDesk (send j k) j
-  at-sent : {j k : ℕ} → AtDesk (send j k) k
-  at-receive : {j p : ℕ} → AtDesk (receive j p) j
-  at-reset : {j : ℕ} → AtDesk (reset j) j
-  at-keep : {j : ℕ} → AtDesk (keep j) j
+  at-local : {j : ℕ} {q : Bool} → AtDesk (local j q) j
+  at-send : {j k : ℕ} {q : Bool} → AtDesk (send j k q) j
+  at-sent : {j k : ℕ} {q : Bool} → AtDesk (send j k q) k
+  at-receive : {j p : ℕ} {q : Bool} → AtDesk (receive j p q) j
+  at-reset : {j : ℕ} {q : Bool} → AtDesk (reset j q) j
 
 pub data Ticks : Act → ℕ → Type 0 where
-  by-local : {j : ℕ} → Ticks (local j) j
-  by-send : {j k : ℕ} → Ticks (send j k) j
-  by-receive : {j p : ℕ} → Ticks (receive j p) j
+  by-local : {j : ℕ} {q : Bool} → Ticks (local j q) j
+  by-send : {j k : ℕ} {q : Bool} → Ticks (send j k q) j
+  by-receive : {j p : ℕ} {q : Bool} → Ticks (receive j p q) j
+
+pub data ToKeep : Act → Type 0 where
+  keep-local : {j : ℕ} → ToKeep (local j true)
+  keep-send : {j k : ℕ} → ToKeep (send j k true)
+  keep-receive : {j p : ℕ} → ToKeep (receive j p true)
+  keep-reset : {j : ℕ} → ToKeep (reset j true)
 
 pub data OfMail : Act → ℕ → Type 0 where
-  of-receive : {j p : ℕ} → OfMail (receive j p) p
+  of-receive : {j p : ℕ} {q : Bool} → OfMail (receive j p q) p
   of-discard : {p : ℕ} → OfMail (discard p) p
 
 pub data OfSlot : Act → ℕ → Type 0 where
@@ -77,29 +82,27 @@ pub data Due (Z : Phases) (X : Setup) (b : Tables) : Act → Name → Type 0 whe
   -- a desk number is D or more
   no-desk : {c : Act} {j : ℕ} → AtDesk c j → X .desks ≤ j → Due Z X b c NoDesk
   -- send to oneself
-  same-desk : {j : ℕ} → Due Z X b (send j j) SameDesk
+  same-desk : {j : ℕ} {q : Bool} → Due Z X b (send j j q) SameDesk
   -- place or slot above 31, or free
   no-mail : {c : Act} {p : ℕ} → OfMail c p → Gone p (b .mail p) → Due Z X b c NoPlace
   no-slot : {c : Act} {s : ℕ} → OfSlot c s → Gone s (b .shelf s) → Due Z X b c NoPlace
   -- mail addressed to another desk
-  not-yours : {j p : ℕ} {w : Held} → b .mail p ≡ some w → (w .to ≡ j → ⊥) → Due Z X b (receive j p) NotYours
-  -- keep at a seat not started
-  no-event : {j : ℕ} → b .seat j .started ≡ false → Due Z X b (keep j) NoEvent
+  not-yours : {j p : ℕ} {q : Bool} {w : Held} → b .mail p ≡ some w → (w .to ≡ j → ⊥) → Due Z X b (receive j p q) NotYours
   -- local, send or receive at own clock L-1
   phase-full : {c : Act} {j : ℕ} → Ticks c j → X .clocks ≤ own b j .clock + 1 → Due Z X b c PhaseFull
   -- send with no free place
-  mail-full : {j k : ℕ} → ((p : ℕ) → p < 32 → used (b .mail p) ≡ true) → Due Z X b (send j k) MailFull
-  -- keep with no free slot
-  shelf-full : {j : ℕ} → ((s : ℕ) → s < 32 → used (b .shelf s) ≡ true) → Due Z X b (keep j) ShelfFull
+  mail-full : {j k : ℕ} {q : Bool} → ((p : ℕ) → p < 32 → used (b .mail p) ≡ true) → Due Z X b (send j k q) MailFull
+  -- an event to be kept with no free slot
+  shelf-full : {c : Act} → ToKeep c → ((s : ℕ) → s < 32 → used (b .shelf s) ≡ true) → Due Z X b c ShelfFull
   -- reset at j; the entry for j lags M in the seat of another desk below D
-  seat-behind : {j k : ℕ} → k < X .desks → (k ≡ j → ⊥)
-      → Z .lag (own b j .phase) (b .seat k .row j .phase) ≡ X .seatLag → Due Z X b (reset j) SeatBehind
+  seat-behind : {j k : ℕ} {q : Bool} → k < X .desks → (k ≡ j → ⊥)
+      → Z .lag (own b j .phase) (b .seat k .row j .phase) ≡ X .seatLag → Due Z X b (reset j q) SeatBehind
   -- reset at j; a waiting row's entry for j lags 2M
-  mail-behind : {j p : ℕ} {w : Held} → p < 32 → b .mail p ≡ some w
-      → lagIn Z b j w ≡ 2 * X .seatLag → Due Z X b (reset j) MailBehind
+  mail-behind : {j p : ℕ} {q : Bool} {w : Held} → p < 32 → b .mail p ≡ some w
+      → lagIn Z b j w ≡ 2 * X .seatLag → Due Z X b (reset j q) MailBehind
   -- reset at j; a kept row's entry for j lags A
-  shelf-behind : {j s : ℕ} {w : Held} → s < 32 → b .shelf s ≡ some w
-      → lagIn Z b j w ≡ X .shelfLag → Due Z X b (reset j) ShelfBehind
+  shelf-behind : {j s : ℕ} {q : Bool} {w : Held} → s < 32 → b .shelf s ≡ some w
+      → lagIn Z b j w ≡ X .shelfLag → Due Z X b (reset j q) ShelfBehind
   -- write into fewer than 20 bytes
   no-room : {s room : ℕ} → room < 20 → Due Z X b (write s room) NoRoom
   -- comparison beyond reach: the difference is lag of e's entry minus lag of f's entry, at the desk of e

@@ -9,8 +9,8 @@ use mathlib.Core.Path.{_≡_}
 use mathlib.Core.Bool.{true}
 use mathlib.Core.Option.{Option, none, some}
 use Prim.Native.Nat.{ℕ, _≤_, _<_}
-use Rattle.rules.specs.Model.{places, Held, Tables, Act, local, reset, keep, drop, discard, send, receive, ask}
-use Rattle.rules.specs.Model.{used, freeMail, freeSlot}
+use Rattle.rules.specs.Model.{places, Held, Tables, Act, local, reset, send, receive, drop, discard, ask}
+use Rattle.rules.specs.Model.{used, freeMail, slotFor}
 
 pub record Touched : Type 0 where
   pub seat : Option ℕ
@@ -18,11 +18,10 @@ pub record Touched : Type 0 where
   pub slot : Option ℕ
 
 abbrev pub touches : Tables → Act → Touched
-touches b (local j) = record { seat = some j; place = none; slot = none }
-touches b (send j k) = record { seat = some j; place = some (freeMail b); slot = none }
-touches b (receive j p) = record { seat = some j; place = some p; slot = none }
-touches b (reset j) = record { seat = some j; place = none; slot = none }
-touches b (keep j) = record { seat = none; place = none; slot = some (freeSlot b) }
+touches b (local j q) = record { seat = some j; place = none; slot = slotFor b q }
+touches b (send j k q) = record { seat = some j; place = some (freeMail b); slot = slotFor b q }
+touches b (receive j p q) = record { seat = some j; place = some p; slot = slotFor b q }
+touches b (reset j q) = record { seat = some j; place = none; slot = slotFor b q }
 touches b (drop s) = record { seat = none; place = none; slot = some s }
 touches b (discard p) = record { seat = none; place = some p; slot = none }
 touches b (ask q) = record { seat = none; place = none; slot = none }

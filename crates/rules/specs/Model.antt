@@ -8,10 +8,11 @@
 --   Tables           the seats, the mail places and the shelf slots
 --   Label            a stamp: its owner and its row
 --   Question         a call that asks about the stamps on the shelf; it changes nothing
---   Act              a call on a book that is already there; before, compare, show, write, those that ask
+--   Act              a call on a book that is already there; the four events with whether their stamp is kept; before, compare, show,
+--                    write, those that ask
 --   slotAsked q      the slot whose stamp a question hands out, none where it hands out none; slotOf c, the same of an act
 --   Value            what goes with the number 0, part by part
---   nothing          no part; the values of the calls: a stamp; sent, a stamp with its place; a slot; says, yes or no; relates, a
+--   nothing          no part; the values of the calls: made, an event's place, stamp and slot; a stamp; says, yes or no; relates, a
 --                    relation; shows, a row
 --   Answer           a number of the answer table, and the value that goes with it
 --   refusal, accepted   the answer with a number and no value; with 0 and a value
@@ -21,6 +22,7 @@
 --   own b k          desk k's pair in its own seat; phases b k, its phase
 --   limit X k        the clock values of desk k: 0 up to it, it left out
 --   freeMail b       the lowest free mail place, or their number where none is free; freeSlot likewise
+--   slotFor b q      the slot for the stamp of an event: the lowest free one where it is kept, q; none where it is not
 --   tick, turn       a pair after local, send or receive; after a reset
 --   grown, merged, turned   a desk's row after local and send; after receive; after reset
 --   reachBack X t    a difference within reach is above minus this: m, and m+1 from a reset, t
@@ -31,12 +33,14 @@
 --   relation         how the first of two stamps stands to the second
 --   noDesk, noMail, noSlot   there is no such desk; no used mail place, no used slot of that number
 --   atLimit X b j    desk j's own clock is at its last value
+--   noShelf b q      the stamp is to be kept, q, and no slot is free
 --   lags, seatLags   what is held, the seat of another desk, lags just so far at desk j
 --   gap Z X b j e f  the difference from e to f at desk j by their lags, none where it is out of reach
 --   gapHeld          the same between two slots, none where one is free; gapFrom, by their numbers
 --   seated b j r     the seats with row r in j's, started
---   event            an event at j that leaves row r there, with the mail as given
---   filing, telling  an act that changes the mail or the shelf alone; one that changes nothing
+--   event b j r q p mail   an event at j that leaves row r there and, where it is kept, q, in its slot too; with its place p and the
+--                    mail as given
+--   filing, telling  drop and discard, which change the mail or the shelf alone; an act that changes nothing
 --   settle n b r     the result r where the number n is 0; else the refusal n, and the tables b as they were
 --   askReasons Z X b q  when which number is given to the question q, in ascending order; askTells, what an accepted one is told
 --   reasons Z X b c  when which number is given to the act c, in ascending order
@@ -49,7 +53,7 @@ use mathlib.Core.List.{List, [], _∷_}
 use Prim.Native.Nat.{ℕ, _+_, _*_}
 use lib.Dec.{ltb, eqb}
 use Rattle.tools.specs.Tests.{pick, any, lowest}
-use Rattle.tools.specs.Tables.{put}
+use Rattle.tools.specs.Tables.{put, putAt}
 use Rattle.tools.specs.Reasons.{Reason, first, ifDone}
 use Rattle.ring.specs.Phases.{Phases, Pair, Gap, laterBy, lagGap, later}
 use Rattle.rules.specs.declared.Setup.{Setup}
@@ -60,7 +64,6 @@ use Rattle.rules.specs.Numbers.{
   SameDesk,
   NoPlace,
   NotYours,
-  NoEvent,
   PhaseFull,
   MailFull,
   ShelfFull,
@@ -108,10 +111,11 @@ pub data Question : Type 0 where
   askBefore askCompare askWrite : ℕ → ℕ → Question
   askShow : ℕ → Question
 
--- desks, places and slots by their numbers
+-- desks, places and slots by their numbers, an event last with whether it is kept
 pub data Act : Type 0 where
-  local reset keep drop discard : ℕ → Act
-  send receive : ℕ → ℕ → Act
+  local reset : ℕ → Bool → Act
+  send receive : ℕ → ℕ → Bool → Act
+  drop discard : ℕ → Act
   ask : Question → Act
 
 abbrev pub before : ℕ → ℕ → Act
@@ -133,11 +137,10 @@ slotAsked (askShow s) = some s
 slotAsked (askWrite s room) = some s
 
 abbrev pub slotOf : Act → Option ℕ
-slotOf (local j) = none
-slotOf (send j k) = none
-slotOf (receive j p) = none
-slotOf (reset j) = none
-slotOf (keep j) = none
+slotOf (local j q) = none
+slotOf (send j k q) = none
+slotOf (receive j p q) = none
+slotOf (reset j q) = none
 slotOf (drop s) = none
 slotOf (discard p) = none
 slotOf (ask q) = slotAsked q
@@ -154,16 +157,13 @@ pub record Value : Type 0 where
 abbrev pub nothing : Value
 nothing = record { place = none; stamp = none; slot = none; verdict = none; relation = none; row = none }
 
+-- the place of a send, the stamp, and the slot of an event that is kept
+abbrev pub made : Option ℕ → ℕ → Row → Option ℕ → Value
+made p j r s =
+    record { place = p; stamp = some record { owner = j; row = r }; slot = s; verdict = none; relation = none; row = none }
+
 abbrev pub stamp : ℕ → Row → Value
-stamp j r =
-    record { place = none; stamp = some record { owner = j; row = r }; slot = none; verdict = none; relation = none; row = none }
-
-abbrev pub sent : ℕ → ℕ → Row → Value
-sent p j r =
-    record { place = some p; stamp = some record { owner = j; row = r }; slot = none; verdict = none; relation = none; row = none }
-
-abbrev pub slot : ℕ → Value
-slot s = record { place = none; stamp = none; slot = some s; verdict = none; relation = none; row = none }
+stamp j r = made none j r none
 
 abbrev pub says : Bool → Value
 says t = record { place = none; stamp = none; slot = none; verdict = some t; relation = none; row = none }
@@ -228,6 +228,9 @@ freeMail b = lowest places (λ p. not (used (b .mail p)))
 abbrev pub freeSlot : Tables → ℕ
 freeSlot b = lowest places (λ s. not (used (b .shelf s)))
 
+abbrev pub slotFor : Tables → Bool → Option ℕ
+slotFor b q = pick q (some (freeSlot b)) none
+
 abbrev pub tick : Pair → Pair
 tick q = record { phase = q .phase; clock = q .clock + 1 }
 
@@ -279,18 +282,28 @@ noSlot b s = not (used (b .shelf s) && ltb s places)
 abbrev pub atLimit : Setup → Tables → ℕ → Bool
 atLimit X b j = not (ltb (own b j .clock + 1) (limit X j))
 
--- an event at j that leaves row r, with the mail as given
+abbrev pub noShelf : Tables → Bool → Bool
+noShelf b q = q && not (ltb (freeSlot b) places)
+
 abbrev pub seated : Tables → ℕ → Row → ℕ → Seat
 seated b j r = put (b .seat) j (record { started = true; row = r })
 
-abbrev pub event : Tables → ℕ → Row → (ℕ → Option Held) → Value → Result
-event b j r mail v =
-    record { answer = accepted v; tables = record { seat = seated b j r; mail = mail; shelf = b .shelf } }
+-- an event at j that leaves row r: its own row is what is kept
+abbrev pub event : Tables → ℕ → Row → Bool → Option ℕ → (ℕ → Option Held) → Result
+event b j r q p mail =
+    record {
+      answer = accepted (made p j r (slotFor b q));
+      tables = record {
+        seat = seated b j r;
+        mail = mail;
+        shelf = putAt (b .shelf) (slotFor b q) (some record { by = j; to = 0; row = r });
+      };
+    }
 
 -- an act that is no event, with the mail and the shelf as given
-abbrev pub filing : Tables → (ℕ → Option Held) → (ℕ → Option Held) → Value → Result
-filing b mail shelf v =
-    record { answer = accepted v; tables = record { seat = b .seat; mail = mail; shelf = shelf } }
+abbrev pub filing : Tables → (ℕ → Option Held) → (ℕ → Option Held) → Result
+filing b mail shelf =
+    record { answer = accepted nothing; tables = record { seat = b .seat; mail = mail; shelf = shelf } }
 
 abbrev pub telling : Tables → Value → Result
 telling b v = record { answer = accepted v; tables = b }
@@ -342,29 +355,31 @@ module _ (Z : Phases) (X : Setup) where
   askReasons b (askWrite s room) = given NoPlace (noSlot b s) ∷ given NoRoom (ltb room recordSize) ∷ []
 
   unfoldable pub reasons : Tables → Act → List Reason
-  reasons b (local j) = given NoDesk (noDesk X j) ∷ given PhaseFull (atLimit X b j) ∷ []
-  reasons b (send j k) =
+  reasons b (local j q) =
+      given NoDesk (noDesk X j)
+      ∷ given PhaseFull (atLimit X b j)
+      ∷ given ShelfFull (noShelf b q)
+      ∷ []
+  reasons b (send j k q) =
       given NoDesk (noDesk X j || noDesk X k)
       ∷ given SameDesk (eqb j k)
       ∷ given PhaseFull (atLimit X b j)
       ∷ given MailFull (not (ltb (freeMail b) places))
+      ∷ given ShelfFull (noShelf b q)
       ∷ []
-  reasons b (receive j p) =
+  reasons b (receive j p q) =
       given NoDesk (noDesk X j)
       ∷ given NoPlace (noMail b p)
       ∷ given NotYours (not (eqb (toIn (b .mail p)) j))
       ∷ given PhaseFull (atLimit X b j)
+      ∷ given ShelfFull (noShelf b q)
       ∷ []
-  reasons b (reset j) =
+  reasons b (reset j q) =
       given NoDesk (noDesk X j)
+      ∷ given ShelfFull (noShelf b q)
       ∷ given SeatBehind (any (X .desks) (seatLags Z b j (X .seatLag)))
       ∷ given MailBehind (any places (λ p. lags Z b j (2 * X .seatLag) (b .mail p)))
       ∷ given ShelfBehind (any places (λ s. lags Z b j (X .shelfLag) (b .shelf s)))
-      ∷ []
-  reasons b (keep j) =
-      given NoDesk (noDesk X j)
-      ∷ given NoEvent (not (b .seat j .started))
-      ∷ given ShelfFull (not (ltb (freeSlot b) places))
       ∷ []
   reasons b (drop s) = given NoPlace (noSlot b s) ∷ []
   reasons b (discard p) = given NoPlace (noMail b p) ∷ []
@@ -384,19 +399,14 @@ module _ (Z : Phases) (X : Setup) where
   askTells b (askWrite s room) = stamp (byIn (b .shelf s)) (rowIn (b .shelf s))
 
   unfoldable pub done : Tables → Act → Result
-  done b (local j) = event b j (grown b j) (b .mail) (stamp j (grown b j))
-  done b (send j k) =
-      event b j (grown b j) (put (b .mail) (freeMail b) (some record { by = j; to = k; row = grown b j }))
-      (sent (freeMail b) j (grown b j))
-  done b (receive j p) =
-      event b j (merged Z b j (rowIn (b .mail p))) (put (b .mail) p none)
-      (stamp j (merged Z b j (rowIn (b .mail p))))
-  done b (reset j) = event b j (turned Z b j) (b .mail) (stamp j (turned Z b j))
-  done b (keep j) =
-      filing b (b .mail) (put (b .shelf) (freeSlot b) (some record { by = j; to = 0; row = b .seat j .row }))
-      (slot (freeSlot b))
-  done b (drop s) = filing b (b .mail) (put (b .shelf) s none) nothing
-  done b (discard p) = filing b (put (b .mail) p none) (b .shelf) nothing
+  done b (local j q) = event b j (grown b j) q none (b .mail)
+  done b (send j k q) =
+      event b j (grown b j) q (some (freeMail b))
+      (put (b .mail) (freeMail b) (some record { by = j; to = k; row = grown b j }))
+  done b (receive j p q) = event b j (merged Z b j (rowIn (b .mail p))) q none (put (b .mail) p none)
+  done b (reset j q) = event b j (turned Z b j) q none (b .mail)
+  done b (drop s) = filing b (b .mail) (put (b .shelf) s none)
+  done b (discard p) = filing b (put (b .mail) p none) (b .shelf)
   done b (ask q) = telling b (askTells b q)
 
   unfoldable pub step : Tables → Act → Result

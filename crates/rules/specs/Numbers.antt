@@ -1,6 +1,6 @@
 -- The answer table.
 -- Assumes nothing. In words: docs/RULES.md, "Answer numbers".
---   Name       why a call is refused
+--   Name       why a call is refused; NoEvent is never given
 --   number w   its number; 0 is done
 --   given w t  the name w is given when t holds
 use Prim.Native.Nat.{ℕ}

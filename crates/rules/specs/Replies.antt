@@ -5,16 +5,17 @@
 --   rowByte r c     byte c of the bytes of a row
 --   rowBytes r      the bytes of a row
 --   rowOf l         the row that such bytes tell: a pair for each seat's desk, zero beyond
+--   slotIn k        the slot of an event that is kept; none where it is not
 --   stampedSays     what the answer to local, receive or reset says
---   postedSays      what the answer to send says, its stamp beside it
---   keptSays        what the answer to keep says
+--   postedSays      what the answer to send says, its stamp and whether it is kept beside it
 --   toldSays        what the answer to before says
 --   comparedSays    what the answer to compare says
 --   blank           owner 0 and sixteen zeros
---   Beside n s      the stamp s beside the number n: blank where n is a refusal
---   BesidePost p s  the stamp s beside the answer p to send: blank where it is a refusal
+--   Beside n s k    the stamp s and the slot k beside the number n: blank and none where n is a refusal
+--   BesidePost p s k   the same beside the answer p to send
 use mathlib.Core.Path.{_≡_}
 use mathlib.Core.Bool.{true, false}
+use mathlib.Core.Option.{Option, none, some}
 use mathlib.Core.List.{List}
 use Prim.Native.Nat.{ℕ, zero, suc, _+_, _*_, _/_, _%_}
 use lib.Dec.{ltb, eqb}
@@ -31,7 +32,7 @@ use Rattle.rules.specs.declared.Told.{Told}
 use Rattle.rules.specs.declared.Told.the-variants as Tells
 use Rattle.rules.specs.declared.Compared.{Compared}
 use Rattle.rules.specs.declared.Compared.the-variants as Compares
-use Rattle.rules.specs.Model.{seats, Row, stamp, sent, slot, says, relates, Answer, refusal, accepted, zeros}
+use Rattle.rules.specs.Model.{seats, Row, made, says, relates, Answer, refusal, accepted, zeros}
 
 abbrev pub rowSize : ℕ
 rowSize = 16
@@ -51,17 +52,17 @@ rowBytes r = tab 0 rowSize (rowByte r)
 abbrev pub rowOf : List ℕ → Row
 rowOf l k = pick (ltb k seats) (record { phase = byte l (phaseSpot k); clock = byte l (clockSpot k) }) (zeros k)
 
+abbrev pub slotIn : Kept → Option ℕ
+slotIn Keeps.No = none
+slotIn (Keeps.In s) = some s
+
 unfoldable pub stampedSays : Stamped → Answer
 stampedSays r =
-    pick (eqb (r .number) 0) (accepted (stamp (r .stamp .owner) (rowOf (r .stamp .row)))) (refusal (r .number))
+    pick (eqb (r .number) 0) (accepted (made none (r .stamp .owner) (rowOf (r .stamp .row)) (slotIn (r .kept)))) (refusal (r .number))
 
-abbrev pub postedSays : Posted → Stamp → Answer
-postedSays (Posts.At p) s = accepted (sent p (s .owner) (rowOf (s .row)))
-postedSays (Posts.Refused n) s = refusal n
-
-abbrev pub keptSays : Kept → Answer
-keptSays (Keeps.Slot s) = accepted (slot s)
-keptSays (Keeps.Refused n) = refusal n
+abbrev pub postedSays : Posted → Stamp → Kept → Answer
+postedSays (Posts.At p) s k = accepted (made (some p) (s .owner) (rowOf (s .row)) (slotIn k))
+postedSays (Posts.Refused n) s k = refusal n
 
 abbrev pub toldSays : Told → Answer
 toldSays Tells.Yes = accepted (says true)
@@ -75,10 +76,10 @@ comparedSays (Compares.Refused n) = refusal n
 abbrev pub blank : Stamp
 blank = record { owner = 0; row = replicate rowSize 0 }
 
-abbrev pub Beside : ℕ → Stamp → Type 0
-Beside zero s = Unit {0}
-Beside (suc n) s = s ≡ blank
+abbrev pub Beside : ℕ → Stamp → Kept → Type 0
+Beside zero s k = Unit {0}
+Beside (suc n) s k = (s ≡ blank) × (k ≡ Keeps.No)
 
-abbrev pub BesidePost : Posted → Stamp → Type 0
-BesidePost (Posts.At p) s = Unit {0}
-BesidePost (Posts.Refused n) s = s ≡ blank
+abbrev pub BesidePost : Posted → Stamp → Kept → Type 0
+BesidePost (Posts.At p) s k = Unit {0}
+BesidePost (Posts.Refused n) s k = (s ≡ blank) × (k ≡ Keeps.No)

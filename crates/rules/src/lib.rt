@@ -18,6 +18,7 @@ pub const NO_PLACE: u8 = 5;
 
 pub const NOT_YOURS: u8 = 6;
 
+// Never given; the number stays its own.
 pub const NO_EVENT: u8 = 7;
 
 pub const PHASE_FULL: u8 = 8;
@@ -57,10 +58,17 @@ pub struct Stamp {
     pub row: [u8; 16],
 }
 
-// What local, receive and reset answer: the number, and beside it the stamp, which is blank where the event is refused.
+// The slot of an event's stamp, where it is kept.
+pub enum Kept {
+    No,
+    In(u8),
+}
+
+// What local, receive and reset answer: the number, and beside it the stamp and its slot, blank and none where the event is refused.
 pub struct Stamped {
     pub number: u8,
     pub stamp: Stamp,
+    pub kept: Kept,
 }
 
 // The mail place of a send, or the number of its refusal.
@@ -69,16 +77,11 @@ pub enum Posted {
     Refused(u8),
 }
 
-// What send answers: the place, and beside it the stamp, which is blank where the send is refused.
+// What send answers: the place, and beside it the stamp and its slot, blank and none where the send is refused.
 pub struct Sent {
     pub place: Posted,
     pub stamp: Stamp,
-}
-
-// What keep answers.
-pub enum Kept {
-    Slot(u8),
-    Refused(u8),
+    pub kept: Kept,
 }
 
 // What before answers.

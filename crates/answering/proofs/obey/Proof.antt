@@ -1,30 +1,43 @@
 -- `answering::obey` meets its contract. Assumes nothing.
 use Rattle.rules.specs.Model.{done}
+use Rattle.replies.specs.Print.{longest}
 use Rattle.answering.proofs.Answered.{printable, same-book, printed, printed-any}
 use mathlib.Core.Path.{refl}
+use Prim.Native.Nat.{_+_, _≤_}
+use lib.ListN.{length}
 use borrow.Author.Needs.{needs}
 use Rattle.answering.proofs.obey.Statement.{statement}
 use Rattle.answering.proofs.obey.Tie as tie
 
+-- there is room for the longest line
+room
+    : (c : tie.After-desks-in)
+    → c .before .before .before .before .args .at + longest ≤ length (c .before .before .before .before .args .out .now)
+room c = c .before .before .before .before .pre
+
 put-stamped-requires : tie.Need-put-stamped-requires
 put-stamped-requires c κs =
     let k = c .before .before in
-    (printable _ _ _ (k .before .before .before .before .before .before .desks-in .ensures) _ (k .local .ensures .0), search needs)
+    let d = k .before .before .before .before .before .before in
+    (printable _ _ _ (d .desks-in .ensures) _ (k .local .ensures .0), room d)
 
 put-sent-requires : tie.Need-put-sent-requires
 put-sent-requires c κs =
     let k = c .before .before in
-    (printable _ _ _ (k .before .before .before .before .before .before .desks-in .ensures) _ (k .send .ensures .0), search needs)
+    let d = k .before .before .before .before .before .before in
+    (printable _ _ _ (d .desks-in .ensures) _ (k .send .ensures .0), room d)
 
 put-stamped-requires-2 : tie.Need-put-stamped-requires-2
 put-stamped-requires-2 c κs =
     let k = c .before .before in
-    (printable _ _ _ (k .before .before .before .before .before .before .desks-in .ensures) _ (k .receive .ensures .0), search needs)
+    let d = k .before .before .before .before .before .before in
+    (printable _ _ _ (d .desks-in .ensures) _ (k .receive .ensures .0), room d)
 
 put-stamped-requires-3 : tie.Need-put-stamped-requires-3
 put-stamped-requires-3 c κs =
     let k = c .before .before in
-    (printable _ _ _ (k .before .before .before .before .before .before .desks-in .ensures) _ (k .reset .ensures .0), search needs)
+    let d = k .before .before .before .before .before .before in
+    (printable _ _ _ (d .desks-in .ensures) _ (k .reset .ensures .0), room d)
 
 returns : tie.Need-returns
 returns c =
@@ -59,37 +72,31 @@ returns-5 c =
 returns-6 : tie.Need-returns-6
 returns-6 c =
     let k = c .before .before .before .before .before in
-    printed-any _ _ _ _ _ (k .before .before .before .before .c6 .given .1) _ _ _ _ (k .keep .ensures .0) (k .keep .ensures .1)
-    (c .before .before .put-kept .ensures)
+    printed-any _ _ _ _ _ (k .before .before .before .before .c6 .given .1) _ _ _ _ (k .drop .ensures .0) (k .drop .ensures .1)
+    (c .before .before .put-number2 .ensures)
 
 returns-7 : tie.Need-returns-7
 returns-7 c =
     let k = c .before .before .before .before .before in
-    printed-any _ _ _ _ _ (k .before .before .before .before .c7 .given .1) _ _ _ _ (k .drop .ensures .0) (k .drop .ensures .1)
-    (c .before .before .put-number2 .ensures)
+    printed-any _ _ _ _ _ (k .before .before .before .before .c7 .given .1) _ _ _ _ (k .discard .ensures .0) (k .discard .ensures .1)
+    (c .before .before .put-number3 .ensures)
 
 returns-8 : tie.Need-returns-8
+unfolding done
 returns-8 c =
-    let k = c .before .before .before .before .before in
-    printed-any _ _ _ _ _ (k .before .before .before .before .c8 .given .1) _ _ _ _ (k .discard .ensures .0) (k .discard .ensures .1)
-    (c .before .before .put-number3 .ensures)
+    let k = c .before .before .before in
+    printed-any _ _ _ _ _ (k .before .before .before .before .c8 .given .1) _ _ _ _ (k .before2 .ensures) (same-book _ _ refl)
+    (c .before .before .put-told .ensures)
 
 returns-9 : tie.Need-returns-9
 unfolding done
 returns-9 c =
     let k = c .before .before .before in
-    printed-any _ _ _ _ _ (k .before .before .before .before .c9 .given .1) _ _ _ _ (k .before2 .ensures) (same-book _ _ refl)
-    (c .before .before .put-told .ensures)
-
-returns-10 : tie.Need-returns-10
-unfolding done
-returns-10 c =
-    let k = c .before .before .before in
-    printed-any _ _ _ _ _ (k .before .before .before .before .c10 .given .1) _ _ _ _ (k .compare .ensures) (same-book _ _ refl)
+    printed-any _ _ _ _ _ (k .before .before .before .before .c9 .given .1) _ _ _ _ (k .compare .ensures) (same-book _ _ refl)
     (c .before .before .put-compared .ensures)
 
-returns-11 : tie.Need-returns-11
-returns-11 c =
+returns-10 : tie.Need-returns-10
+returns-10 c =
     let a = c .before .before in
     printed-any _ _ _ _ _ (a .before .before .enum-told .given .1) _ _ _ _ refl refl (a .put-number4 .ensures)
 
@@ -108,7 +115,6 @@ obey-spec =
     (λ c. search needs) (λ c κs. search needs) (λ c κs. search needs)
     (λ c. search needs) (λ c κs. search needs) (λ c κs. search needs)
     (λ c. search needs) (λ c κs. search needs) (λ c κs. search needs)
-    (λ c. search needs) (λ c κs. search needs) (λ c κs. search needs)
     (λ c. search needs) (λ c κs. search needs)
     (λ c. search needs) (λ c. search needs) returns
     (λ c. search needs) (λ c. search needs) returns-2
@@ -119,5 +125,4 @@ obey-spec =
     (λ c. search needs) (λ c. search needs) returns-7
     (λ c. search needs) (λ c. search needs) returns-8
     (λ c. search needs) (λ c. search needs) returns-9
-    (λ c. search needs) (λ c. search needs) returns-10
-    (λ c. search needs) (λ c. search needs) returns-11)
+    (λ c. search needs) (λ c. search needs) returns-10)

@@ -28,28 +28,33 @@ past-4 c = past-3 (c .before .before .before) ∙ passed _ _ _ (c .before .is-li
 returns : tie.Need-returns
 unfolding tab
 returns c =
-    let t = c .before in
-    rw (c .number .ensures) (sym (chosen _ _ _ (t .before .is-line .ensures) (t .if1 .taken)))
+    let t = c .before .before .before in
+    c .wished .ensures
+    ∙ rw (c .before .before .number .ensures, c .before .number2 .ensures)
+    (sym (chosen _ _ _ (t .before .is-line .ensures) (t .if1 .taken)))
 
 returns-2 : tie.Need-returns-2
 unfolding tab
 returns-2 c =
-    let t = c .before .before in
-    rw (c .before .number2 .ensures, c .number3 .ensures)
+    let t = c .before .before .before .before in
+    c .wished2 .ensures
+    ∙ rw (c .before .before .before .number3 .ensures, c .before .before .number4 .ensures, c .before .number5 .ensures)
     (sym (past-1 (t .before .before .before) ∙ chosen _ _ _ (t .before .is-line2 .ensures) (t .if2 .taken)))
 
 returns-3 : tie.Need-returns-3
 unfolding tab
 returns-3 c =
-    let t = c .before .before in
-    rw (c .before .number4 .ensures, c .number5 .ensures)
+    let t = c .before .before .before .before in
+    c .wished3 .ensures
+    ∙ rw (c .before .before .before .number6 .ensures, c .before .before .number7 .ensures, c .before .number8 .ensures)
     (sym (past-2 (t .before .before .before) ∙ chosen _ _ _ (t .before .is-line3 .ensures) (t .if3 .taken)))
 
 returns-4 : tie.Need-returns-4
 unfolding tab
 returns-4 c =
-    let t = c .before in
-    rw (c .number6 .ensures)
+    let t = c .before .before .before in
+    c .wished4 .ensures
+    ∙ rw (c .before .before .number9 .ensures, c .before .number10 .ensures)
     (sym (past-3 (t .before .before .before) ∙ chosen _ _ _ (t .before .is-line4 .ensures) (t .if4 .taken)))
 
 returns-5 : tie.Need-returns-5
@@ -61,12 +66,20 @@ parse-events-spec =
     (tie.spec
     (λ c. search needs) (λ c κs. search needs)
     (λ c κs. (omega arith, fits _ _ _ _ (c .before .is-line .ensures) (c .if1 .taken) (omega arith)))
+    (λ c κs. (omega arith, fits _ _ _ _ (c .before .before .is-line .ensures) (c .before .if1 .taken) (omega arith)))
+    (λ c κs. search needs)
     (λ c. search needs) (λ c κs. search needs)
     (λ c κs. (omega arith, fits _ _ _ _ (c .before .is-line2 .ensures) (c .if2 .taken) (omega arith)))
     (λ c κs. (omega arith, fits _ _ _ _ (c .before .before .is-line2 .ensures) (c .before .if2 .taken) (omega arith)))
+    (λ c κs. (omega arith, fits _ _ _ _ (c .before .before .before .is-line2 .ensures) (c .before .before .if2 .taken) (omega arith)))
+    (λ c κs. search needs)
     (λ c. search needs) (λ c κs. search needs)
     (λ c κs. (omega arith, fits _ _ _ _ (c .before .is-line3 .ensures) (c .if3 .taken) (omega arith)))
     (λ c κs. (omega arith, fits _ _ _ _ (c .before .before .is-line3 .ensures) (c .before .if3 .taken) (omega arith)))
+    (λ c κs. (omega arith, fits _ _ _ _ (c .before .before .before .is-line3 .ensures) (c .before .before .if3 .taken) (omega arith)))
+    (λ c κs. search needs)
     (λ c. search needs) (λ c κs. search needs)
     (λ c κs. (omega arith, fits _ _ _ _ (c .before .is-line4 .ensures) (c .if4 .taken) (omega arith)))
+    (λ c κs. (omega arith, fits _ _ _ _ (c .before .before .is-line4 .ensures) (c .before .if4 .taken) (omega arith)))
+    (λ c κs. search needs)
     (λ c κs. search needs) returns returns-2 returns-3 returns-4 returns-5)

@@ -19,9 +19,6 @@ past-1 c = passed _ _ _ (c .before .is-line .ensures) (c .if1 .left)
 past-2 : (c : tie.Else2) → Past (filings ++ questions) 2 (line (c .before .before .before))
 past-2 c = past-1 (c .before .before .before) ∙ passed _ _ _ (c .before .is-line2 .ensures) (c .if2 .left)
 
-past-3 : (c : tie.Else3) → Past (filings ++ questions) 3 (line (c .before .before .before .before .before .before))
-past-3 c = past-2 (c .before .before .before) ∙ passed _ _ _ (c .before .is-line3 .ensures) (c .if3 .left)
-
 returns : tie.Need-returns
 unfolding tab
 returns c =
@@ -36,14 +33,7 @@ returns-2 c =
     (sym (past-1 (t .before .before .before) ∙ chosen _ _ _ (t .before .is-line2 .ensures) (t .if2 .taken)))
 
 returns-3 : tie.Need-returns-3
-unfolding tab
-returns-3 c =
-    let t = c .before in
-    rw (c .number3 .ensures)
-    (sym (past-2 (t .before .before .before) ∙ chosen _ _ _ (t .before .is-line3 .ensures) (t .if3 .taken)))
-
-returns-4 : tie.Need-returns-4
-returns-4 c = c .parse-questions .ensures ∙ sym (past-3 (c .before))
+returns-3 c = c .parse-questions .ensures ∙ sym (past-2 (c .before))
 
 pub parse-filings-spec : {M : Type 1} → statement M
 parse-filings-spec =
@@ -53,6 +43,4 @@ parse-filings-spec =
     (λ c κs. (omega arith, fits _ _ _ _ (c .before .is-line .ensures) (c .if1 .taken) (omega arith)))
     (λ c. search needs) (λ c κs. search needs)
     (λ c κs. (omega arith, fits _ _ _ _ (c .before .is-line2 .ensures) (c .if2 .taken) (omega arith)))
-    (λ c. search needs) (λ c κs. search needs)
-    (λ c κs. (omega arith, fits _ _ _ _ (c .before .is-line3 .ensures) (c .if3 .taken) (omega arith)))
-    (λ c κs. search needs) returns returns-2 returns-3 returns-4)
+    (λ c κs. search needs) returns returns-2 returns-3)

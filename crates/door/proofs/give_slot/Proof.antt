@@ -9,5 +9,5 @@ pub give-slot-spec : {M : Type 1} → statement M
 give-slot-spec =
     tie.close
     (tie.spec
-    (λ c. search needs) (λ c κs. search needs) (λ c. search needs) (λ c κs. search needs)
-    (λ c. search needs) (λ c. search gave) (λ c. search gave))
+    (λ c. search needs) (λ c. search needs) (λ c. search needs) (λ c κs. search gave) (λ c. search gave) (λ c. search needs)
+    (λ c. search gave))

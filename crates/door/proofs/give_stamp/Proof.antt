@@ -9,4 +9,5 @@ pub give-stamp-spec : {M : Type 1} → statement M
 give-stamp-spec =
     tie.close
     (tie.spec
-    (λ c. search gave) (λ c κs. search needs) (λ c. search needs) (λ c κs. search needs) (λ c. search needs) (λ c. search gave))
+    (λ c. search gave) (λ c κs. search needs) (λ c. search needs) (λ c κs. search needs) (λ c κs. search needs) (λ c. search needs)
+    (λ c. search needs) (λ c. search gave))

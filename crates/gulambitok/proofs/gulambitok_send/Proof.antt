@@ -1,13 +1,57 @@
 -- `gulambitok::gulambitok_send` meets its contract.
 -- Assumes nothing.
-use Rattle.gulambitok.proofs.Called.{called}
+use mathlib.Core.Path.{refl}
+use mathlib.Core.Bool.{_||_}
+use lib.Dec.{ltb}
+use lib.ListN.{length}
+use Rattle.rules.specs.Model.{send, done}
+use Rattle.door.specs.Door.{wished}
+use Rattle.gulambitok.proofs.Called.{send-short, sent-fits, send-makes, first-enough, last-enough}
 use borrow.Author.Needs.{needs}
 use Rattle.gulambitok.proofs.gulambitok_send.Statement.{statement}
 use Rattle.gulambitok.proofs.gulambitok_send.Tie as tie
+
+-- what came in
+abbrev entry : tie.After-slot-short → tie.Start
+entry c = c .before .before .before .before .before
+
+returns : tie.Need-returns
+returns c =
+    let g = c .before in
+    let e = g .before .before in
+    let o = e .before .slot-short in
+    let x = entry (e .before) .args in
+    send-short (send (x .desk) (x .to) (wished (x .keep))) (x .book .now) (wished (x .keep)) (x .stamp .now) (x .slot .now) (o .result) (o .ensures) (g .send-grant .result)
+    (g .send-grant .ensures) _ (c .number-by .ensures) _ (e .if1 .taken)
+
+give-sent-requires : tie.Need-give-sent-requires
+unfolding done
+give-sent-requires c κs =
+    let k = c .before .before .before .before .before in
+    let e = k .before .before .before .before in
+    let o = e .before .slot-short in
+    let x = entry (e .before) .args in
+    let p = ltb (length (x .place .now)) 1 in
+    let both = first-enough (o .result || p) (length (x .stamp .now)) 20 (e .if1 .left) in (
+      (last-enough (o .result || p) _ _ (e .if1 .left), last-enough (o .result) _ _ both),
+      sent-fits (send (x .desk) (x .to) (wished (x .keep))) (x .book .now) (wished (x .keep)) (x .stamp .now) (x .slot .now) (o .result) (o .ensures) refl
+          (k .send .result .place) (k .send .result .stamp) (k .send .result .kept) (k .send .ensures .0) (k .send .ensures .1 .0)
+          (first-enough (o .result) (length (x .place .now)) 1 both),
+    )
+
+returns-2 : tie.Need-returns-2
+returns-2 c =
+    let g = c .before .before .before .before .before .before in
+    let k = g .before .before .before .before .before .before in
+    let e = k .before .before .before .before in
+    let o = e .before .slot-short in
+    let x = entry (e .before) .args in
+    send-makes (send (x .desk) (x .to) (wished (x .keep))) (x .book .now) (wished (x .keep)) (x .stamp .now) (x .slot .now) (o .result) (o .ensures) _ (k .send .ensures .0) _
+    (k .send .ensures .1 .1) _ (k .before .before .desks-in .ensures) _ _ _ _ _ (e .if1 .left) (g .give-sent .ensures)
 
 pub gulambitok-send-spec : {M : Type 1} → statement M
 gulambitok-send-spec =
     tie.close
     (tie.spec
-    (λ c κs. search needs) (λ c κs. search needs) (λ c. search needs) (λ c. search called) (λ c κs. search needs)
-    (λ c κs. search needs) (λ c κs. search called) (λ c. search needs) (λ c. search needs) (λ c. search needs) (λ c. search called))
+    (λ c κs. search needs) (λ c κs. search needs) (λ c κs. search needs) (λ c. search needs) returns (λ c κs. search needs)
+    (λ c κs. search needs) give-sent-requires (λ c. search needs) (λ c. search needs) (λ c. search needs) (λ c. search needs) returns-2)

@@ -1,5 +1,7 @@
 -- `portal::local` meets its contract.
 -- Assumes nothing.
+use mathlib.Core.Path.{ap}
+use Rattle.refusals.specs.declared.Grant.{Grant}
 use Rattle.portal.proofs.Acts.{refused-stamps, local-grows, local-seat, local-stamps}
 use borrow.Author.Needs.{needs}
 use Rattle.portal.proofs.local.Statement.{statement}
@@ -7,21 +9,25 @@ use Rattle.portal.proofs.local.Tie as tie
 
 returns : tie.Need-returns
 returns c =
-    let w = c .before .before .local-number in
-    refused-stamps _ _ (w .result) (w .ensures) (c .before .if1 .taken) _ (c .refused .ensures)
+    let g = c .before .before .before .local-grant in
+    refused-stamps _ _ _ (ap (λ (x : Grant). x .number) (g .ensures)) (c .before .if1 .taken) _ (c .refused .ensures)
 
 grown-row-requires : tie.Need-grown-row-requires
-grown-row-requires c κs = let g = c .before in local-grows _ _ _ (g .before .local-number .ensures) (g .if1 .left)
+grown-row-requires c κs =
+    let g = c .before .before .before .local-grant in local-grows _ _ _ (g .result) (g .ensures) (c .before .if1 .left)
 
 take-row-requires : tie.Need-take-row-requires
-take-row-requires c κs = let g = c .before .before .before in local-seat _ _ _ (g .before .local-number .ensures) (g .if1 .left)
+take-row-requires c κs =
+    let e = c .before .before .before in
+    let g = e .before .before .local-grant in local-seat _ _ _ (g .result) (g .ensures) (e .if1 .left)
 
 returns-2 : tie.Need-returns-2
 returns-2 c =
     let r = c .before .before .before .before in
-    let g = r .before .before in
+    let e = r .before .before in
+    let g = e .before .before .local-grant in
     let t = c .before .before .take-row .ensures in
-    local-stamps _ _ _ (g .before .local-number .ensures) (g .if1 .left) _ _ _ (t .0) (r .grown-row .ensures) (t .1)
+    local-stamps _ _ _ (g .result) (g .ensures) (e .if1 .left) _ _ _ (t .0) (r .grown-row .ensures) (t .1)
 
 pub local-spec : {M : Type 1} → statement M
 local-spec =

@@ -1,7 +1,8 @@
 -- `portal::receive` meets its contract.
 -- Assumes nothing.
-use mathlib.Core.Path.{_∙_}
+use mathlib.Core.Path.{ap, _∙_}
 use native.Mathlib.Omega.{arith}
+use Rattle.refusals.specs.declared.Grant.{Grant}
 use Rattle.portal.proofs.Acts.{refused-stamps, receive-grows, receive-place, receive-stamps}
 use borrow.Author.Needs.{needs}
 use Rattle.portal.proofs.receive.Statement.{statement}
@@ -9,41 +10,43 @@ use Rattle.portal.proofs.receive.Tie as tie
 
 returns : tie.Need-returns
 returns c =
-    let w = c .before .before .receive-number in
-    refused-stamps _ _ (w .result) (w .ensures) (c .before .if1 .taken) _ (c .refused .ensures)
+    let g = c .before .before .before .receive-grant in
+    refused-stamps _ _ _ (ap (λ (x : Grant). x .number) (g .ensures)) (c .before .if1 .taken) _ (c .refused .ensures)
 
 merged-row-requires : tie.Need-merged-row-requires
 merged-row-requires c κs =
-    let g = c .before in
-    let e = g .before .receive-number .ensures in
-    (receive-grows _ _ _ _ e (g .if1 .left), receive-place _ _ _ _ e (g .if1 .left))
+    let e = c .before in
+    let g = e .before .before .receive-grant in
+    (receive-grows _ _ _ _ (g .result) (g .ensures) (e .if1 .left), receive-place _ _ _ _ (g .result) (g .ensures) (e .if1 .left))
 
 add-from : tie.Need-add-from
 add-from c =
-    let g = c .before .before in
-    let l = receive-place _ _ _ _ (g .before .receive-number .ensures) (g .if1 .left) in omega arith
+    let e = c .before .before in
+    let g = e .before .before .receive-grant in omega (arith, receive-place _ _ _ _ (g .result) (g .ensures) (e .if1 .left))
 
 clear-requires : tie.Need-clear-requires
 clear-requires c κs =
-    let g = c .before .before .before in
-    let e = g .before .receive-number .ensures in
-    let a = receive-grows _ _ _ _ e (g .if1 .left) .at in
-    let l = receive-place _ _ _ _ e (g .if1 .left) in (a .size, omega (arith, a .eight))
+    let e = c .before .before .before in
+    let g = e .before .before .receive-grant in (
+      receive-grows _ _ _ _ (g .result) (g .ensures) (e .if1 .left) .at .size,
+      omega (arith, receive-place _ _ _ _ (g .result) (g .ensures) (e .if1 .left)),
+    )
 
 take-row-requires : tie.Need-take-row-requires
 take-row-requires c κs =
-    let g = c .before .before .before .before .before .before .before in
-    let a = receive-grows _ _ _ _ (g .before .receive-number .ensures) (g .if1 .left) .at in
+    let e = c .before .before .before .before .before .before .before in
+    let g = e .before .before .receive-grant in
+    let a = receive-grows _ _ _ _ (g .result) (g .ensures) (e .if1 .left) .at in
     (c .before .before .before .clear .kept .0 ∙ a .size, a .eight)
 
 returns-2 : tie.Need-returns-2
 returns-2 c =
     let m = c .before .before .before .before .before .before in
     let r = m .before .before in
-    let g = r .before .before in
+    let e = r .before .before in
+    let g = e .before .before .receive-grant in
     let t = c .before .before .take-row .ensures in
-    receive-stamps _ _ _ _ (g .before .receive-number .ensures) (g .if1 .left) _ _ _ _ (t .0) (r .merged-row .ensures) (m .clear .ensures)
-    (t .1)
+    receive-stamps _ _ _ _ (g .result) (g .ensures) (e .if1 .left) _ _ _ _ (t .0) (r .merged-row .ensures) (m .clear .ensures) (t .1)
 
 pub receive-spec : {M : Type 1} → statement M
 receive-spec =

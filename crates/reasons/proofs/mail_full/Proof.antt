@@ -1,0 +1,11 @@
+-- `reasons::mail_full` meets its contract.
+-- Assumes nothing.
+use borrow.Author.Needs.{needs}
+use Rattle.reasons.proofs.mail_full.Statement.{statement}
+use Rattle.reasons.proofs.mail_full.Tie as tie
+
+returns : tie.Need-returns
+returns c = cc
+
+pub mail-full-spec : {M : Type 1} → statement M
+mail-full-spec = tie.close (tie.spec (λ c κs. search needs) returns)
