@@ -20,7 +20,8 @@ use Rattle.rules.specs.Model.{askTells}
 use Rattle.rules.specs.Frames.{LowestFree}
 use Rattle.rules.specs.Due.{at-local, at-send, at-sent, at-receive, at-reset, by-local, by-send, by-receive, of-receive}
 use Rattle.rules.specs.Due.{OfSlot, of-show, of-write, Gone, lagIn, Due, no-desk, same-desk, no-mail, no-slot, phase-full}
-use Rattle.rules.specs.Due.{ToKeep, keep-local, keep-send, keep-receive, keep-reset, mail-full, shelf-full, seat-behind, mail-behind, shelf-behind}
+use Rattle.rules.specs.Due.{ToKeep, keep-local, keep-send, keep-receive, keep-reset}
+use Rattle.rules.specs.Due.{mail-full, shelf-full, seat-behind, mail-behind, shelf-behind}
 use Rattle.rules.proofs.Steps.{step-number}
 use Rattle.rules.proofs.Frames.{lowest-place, lowest-slot}
 use Rattle.rules.proofs.Due.{table}

@@ -16,10 +16,12 @@ use Rattle.ring.specs.Phases.{Phases, Gap}
 use Rattle.rules.specs.declared.Setup.{Setup}
 use Rattle.rules.specs.Numbers.{Name, NoDesk, SameDesk, NoPlace, NotYours, NoEvent, PhaseFull, MailFull, ShelfFull, SeatBehind}
 use Rattle.rules.specs.Numbers.{MailBehind, ShelfBehind, NoRoom, OutOfReach, number}
-use Rattle.rules.specs.Model.{Held, Tables, Label, Act, local, reset, send, receive, drop, discard, ask, askBefore, askCompare, askShow, askWrite, before, compare, step}
+use Rattle.rules.specs.Model.{Held, Tables, Label, Act, local, reset, send, receive, drop, discard}
+use Rattle.rules.specs.Model.{ask, askBefore, askCompare, askShow, askWrite, before, compare, step}
 use Rattle.rules.specs.Model.{refusal, used, freeSlot, toIn, own, atLimit, lags, near, isOut, gapHeld, askReasons, reasons}
 use Rattle.rules.specs.Due.{at-local, at-send, at-sent, at-receive, at-reset, by-local, by-send, by-receive, of-receive}
-use Rattle.rules.specs.Due.{ToKeep, keep-local, keep-send, keep-receive, keep-reset, of-discard, OfSlot, of-drop, of-before, of-before′, of-compare, of-compare′, of-show, of-write, Asks}
+use Rattle.rules.specs.Due.{ToKeep, keep-local, keep-send, keep-receive, keep-reset}
+use Rattle.rules.specs.Due.{of-discard, OfSlot, of-drop, of-before, of-before′, of-compare, of-compare′, of-show, of-write, Asks}
 use Rattle.rules.specs.Due.{asks-before, asks-compare, asks-back, Gone, lagIn, Due, no-desk, same-desk, no-mail, no-slot}
 use Rattle.rules.specs.Due.{not-yours, phase-full, mail-full, shelf-full, seat-behind, mail-behind, shelf-behind, no-room}
 use Rattle.rules.specs.Due.{out-of-reach, DueNumber}

@@ -19,8 +19,8 @@ returns c =
     let e = g .before .before in
     let o = e .before .slot-short in
     let x = entry (e .before) .args in
-    event-short (local (x .desk) (wished (x .keep))) (x .book .now) (wished (x .keep)) (x .stamp .now) (x .slot .now) (o .result) (o .ensures) (g .local-grant .result)
-    (g .local-grant .ensures) _ (c .number-by .ensures) (e .if1 .taken)
+    event-short (local (x .desk) (wished (x .keep))) (x .book .now) (wished (x .keep)) (x .stamp .now) (x .slot .now) (o .result)
+    (o .ensures) (g .local-grant .result) (g .local-grant .ensures) _ (c .number-by .ensures) (e .if1 .taken)
 
 give-stamp-requires : tie.Need-give-stamp-requires
 unfolding done
@@ -30,8 +30,9 @@ give-stamp-requires c κs =
     let o = e .before .slot-short in
     let x = entry (e .before) .args in (
       last-enough (o .result) _ _ (e .if1 .left),
-      stamped-fits (local (x .desk) (wished (x .keep))) (x .book .now) (wished (x .keep)) (x .stamp .now) (x .slot .now) (o .result) (o .ensures) refl (k .local .result)
-          (k .local .ensures .0) (k .local .ensures .1 .0) (first-enough (o .result) (length (x .stamp .now)) 20 (e .if1 .left)),
+      stamped-fits (local (x .desk) (wished (x .keep))) (x .book .now) (wished (x .keep)) (x .stamp .now) (x .slot .now) (o .result)
+          (o .ensures) refl (k .local .result) (k .local .ensures .0) (k .local .ensures .1 .0)
+          (first-enough (o .result) (length (x .stamp .now)) 20 (e .if1 .left)),
     )
 
 returns-2 : tie.Need-returns-2
@@ -41,8 +42,9 @@ returns-2 c =
     let e = k .before .before .before .before in
     let o = e .before .slot-short in
     let x = entry (e .before) .args in
-    event-makes (local (x .desk) (wished (x .keep))) (x .book .now) (wished (x .keep)) (x .stamp .now) (x .slot .now) (o .result) (o .ensures) _ (k .local .ensures .0) _
-    (k .local .ensures .1 .1) _ (k .before .before .desks-in .ensures) _ _ _ (e .if1 .left) (g .give-stamp .ensures)
+    event-makes (local (x .desk) (wished (x .keep))) (x .book .now) (wished (x .keep)) (x .stamp .now) (x .slot .now) (o .result)
+    (o .ensures) _ (k .local .ensures .0) _ (k .local .ensures .1 .1) _ (k .before .before .desks-in .ensures) _ _ _ (e .if1 .left)
+    (g .give-stamp .ensures)
 
 pub gulambitok-local-spec : {M : Type 1} → statement M
 gulambitok-local-spec =

@@ -19,8 +19,8 @@ returns c =
     let e = g .before .before in
     let o = e .before .slot-short in
     let x = entry (e .before) .args in
-    event-short (receive (x .desk) (x .place) (wished (x .keep))) (x .book .now) (wished (x .keep)) (x .stamp .now) (x .slot .now) (o .result) (o .ensures) (g .receive-grant .result)
-    (g .receive-grant .ensures) _ (c .number-by .ensures) (e .if1 .taken)
+    event-short (receive (x .desk) (x .place) (wished (x .keep))) (x .book .now) (wished (x .keep)) (x .stamp .now) (x .slot .now)
+    (o .result) (o .ensures) (g .receive-grant .result) (g .receive-grant .ensures) _ (c .number-by .ensures) (e .if1 .taken)
 
 give-stamp-requires : tie.Need-give-stamp-requires
 unfolding done
@@ -30,8 +30,9 @@ give-stamp-requires c κs =
     let o = e .before .slot-short in
     let x = entry (e .before) .args in (
       last-enough (o .result) _ _ (e .if1 .left),
-      stamped-fits (receive (x .desk) (x .place) (wished (x .keep))) (x .book .now) (wished (x .keep)) (x .stamp .now) (x .slot .now) (o .result) (o .ensures) refl (k .receive .result)
-          (k .receive .ensures .0) (k .receive .ensures .1 .0) (first-enough (o .result) (length (x .stamp .now)) 20 (e .if1 .left)),
+      stamped-fits (receive (x .desk) (x .place) (wished (x .keep))) (x .book .now) (wished (x .keep)) (x .stamp .now)
+          (x .slot .now) (o .result) (o .ensures) refl (k .receive .result) (k .receive .ensures .0) (k .receive .ensures .1 .0)
+          (first-enough (o .result) (length (x .stamp .now)) 20 (e .if1 .left)),
     )
 
 returns-2 : tie.Need-returns-2
@@ -41,8 +42,9 @@ returns-2 c =
     let e = k .before .before .before .before in
     let o = e .before .slot-short in
     let x = entry (e .before) .args in
-    event-makes (receive (x .desk) (x .place) (wished (x .keep))) (x .book .now) (wished (x .keep)) (x .stamp .now) (x .slot .now) (o .result) (o .ensures) _ (k .receive .ensures .0) _
-    (k .receive .ensures .1 .1) _ (k .before .before .desks-in .ensures) _ _ _ (e .if1 .left) (g .give-stamp .ensures)
+    event-makes (receive (x .desk) (x .place) (wished (x .keep))) (x .book .now) (wished (x .keep)) (x .stamp .now) (x .slot .now)
+    (o .result) (o .ensures) _ (k .receive .ensures .0) _ (k .receive .ensures .1 .1) _ (k .before .before .desks-in .ensures) _ _ _
+    (e .if1 .left) (g .give-stamp .ensures)
 
 pub gulambitok-receive-spec : {M : Type 1} → statement M
 gulambitok-receive-spec =

@@ -21,8 +21,8 @@ returns c =
     let e = g .before .before in
     let o = e .before .slot-short in
     let x = entry (e .before) .args in
-    send-short (send (x .desk) (x .to) (wished (x .keep))) (x .book .now) (wished (x .keep)) (x .stamp .now) (x .slot .now) (o .result) (o .ensures) (g .send-grant .result)
-    (g .send-grant .ensures) _ (c .number-by .ensures) _ (e .if1 .taken)
+    send-short (send (x .desk) (x .to) (wished (x .keep))) (x .book .now) (wished (x .keep)) (x .stamp .now) (x .slot .now)
+    (o .result) (o .ensures) (g .send-grant .result) (g .send-grant .ensures) _ (c .number-by .ensures) _ (e .if1 .taken)
 
 give-sent-requires : tie.Need-give-sent-requires
 unfolding done
@@ -34,8 +34,9 @@ give-sent-requires c κs =
     let p = ltb (length (x .place .now)) 1 in
     let both = first-enough (o .result || p) (length (x .stamp .now)) 20 (e .if1 .left) in (
       (last-enough (o .result || p) _ _ (e .if1 .left), last-enough (o .result) _ _ both),
-      sent-fits (send (x .desk) (x .to) (wished (x .keep))) (x .book .now) (wished (x .keep)) (x .stamp .now) (x .slot .now) (o .result) (o .ensures) refl
-          (k .send .result .place) (k .send .result .stamp) (k .send .result .kept) (k .send .ensures .0) (k .send .ensures .1 .0)
+      sent-fits (send (x .desk) (x .to) (wished (x .keep))) (x .book .now) (wished (x .keep)) (x .stamp .now) (x .slot .now)
+          (o .result) (o .ensures) refl (k .send .result .place) (k .send .result .stamp) (k .send .result .kept)
+          (k .send .ensures .0) (k .send .ensures .1 .0)
           (first-enough (o .result) (length (x .place .now)) 1 both),
     )
 
@@ -46,8 +47,9 @@ returns-2 c =
     let e = k .before .before .before .before in
     let o = e .before .slot-short in
     let x = entry (e .before) .args in
-    send-makes (send (x .desk) (x .to) (wished (x .keep))) (x .book .now) (wished (x .keep)) (x .stamp .now) (x .slot .now) (o .result) (o .ensures) _ (k .send .ensures .0) _
-    (k .send .ensures .1 .1) _ (k .before .before .desks-in .ensures) _ _ _ _ _ (e .if1 .left) (g .give-sent .ensures)
+    send-makes (send (x .desk) (x .to) (wished (x .keep))) (x .book .now) (wished (x .keep)) (x .stamp .now) (x .slot .now)
+    (o .result) (o .ensures) _ (k .send .ensures .0) _ (k .send .ensures .1 .1) _ (k .before .before .desks-in .ensures) _ _ _ _ _
+    (e .if1 .left) (g .give-sent .ensures)
 
 pub gulambitok-send-spec : {M : Type 1} → statement M
 gulambitok-send-spec =
