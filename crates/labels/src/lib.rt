@@ -220,7 +220,7 @@ fn refusal_of(who: Owner) -> u8
 fn owners_of(setup: Setup, first: &[u8], second: &[u8]) -> Owners
     ensures { λ q. ⌜ Asked setup (now (first .entry)) (now (second .entry)) q ⌝ }
 {
-    if !rules::permits(setup) {
+    if !setups::permits(setup) {
         return Owners::Refused(rules::BAD_SETUP);
     }
     let lasts = lasts_of(setup);

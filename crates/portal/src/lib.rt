@@ -113,7 +113,7 @@ pub fn start(book: &mut [u8], s: Setup) -> u8
     if book.len() != parts::BOOK_BYTES {
         return rules::BAD_BOOK;
     }
-    if !rules::permits(s) {
+    if !setups::permits(s) {
         return rules::BAD_SETUP;
     }
     fresh::write_fresh(book, s);

@@ -1,0 +1,184 @@
+// Whether the contents of one record of a book are in order, whatever its mark.
+ghost use mathlib.Core.Path.{_≡_};
+ghost use mathlib.Core.List.{[], _∷_};
+ghost use Prim.Native.Nat.{_<_, _≤_};
+ghost use lib.Dec.{leb, ltb};
+ghost use lib.ListN.{length};
+ghost use Rattle.ring.specs.Phases.{lagOf};
+ghost use Rattle.tools.specs.Tests.{pick, allOf};
+ghost use Rattle.book.specs.Layout.{bookSize, records, shelfFrom, mailFrom, seats, fields};
+ghost use Rattle.book.specs.Sound.{columnZero, rowOk, rowZero, seatRest, seatNear, recordOk};
+ghost use Rattle.contents.specs.Checks.{Limits, Ready, Used};
+
+// What the pairs of the desks are held to stands in one array, desk by desk in each of its three parts: first how many phases
+// each desk has.
+const PHASES: usize = 0;
+
+// Then each desk's own phase.
+const OWN: usize = parts::SEATS;
+
+// Then how many clock values each has.
+const CLOCKS: usize = 2 * parts::SEATS;
+
+// A number of a desk; where there is no such desk, the one that stands for it.
+fn of_desk(desks: usize, desk: usize, number: u8, none: u8) -> u8
+    ensures { λ r. ⌜ r ≡ pick (ltb desk desks) number none ⌝ }
+{
+    if desk < desks {
+        return number;
+    }
+    none
+}
+
+// Where there is no desk 0 alone is in range, and does not lag.
+pub fn limits_of(book: &[u8]) -> [u8; 24]
+    requires { ⌜ length (now book) ≡ bookSize ⌝ }
+    ensures { λ r. ⌜ Limits (now (book .entry)) seats r ⌝ }
+{
+    let d = parts::desks_of(book);
+    let mut limits = [0u8; 24];
+    let mut j: usize = 0;
+    while j < parts::SEATS {
+        limits[PHASES + j] = of_desk(d, j, book[parts::PHASES_AT], 1);
+        limits[OWN + j] = of_desk(d, j, parts::phase_at(book, j, j), 0);
+        limits[CLOCKS + j] = of_desk(d, j, book[parts::CLOCKS_AT], 1);
+        j += 1;
+    }
+    limits
+}
+
+// What is added to own before the phase is subtracted: nothing where own is at least the phase, otherwise the ring's phases.
+fn lap(own: u8, phase: u8, phases: u8) -> u8
+    ensures { λ r. ⌜ r ≡ pick (leb phase own) 0 phases ⌝ }
+{
+    if own >= phase {
+        return 0;
+    }
+    phases
+}
+
+// The lag's two lines, with the phase added to the bound and not subtracted: no difference that could wrap, no branch.
+fn pair_ok(own: u8, phases: u8, clocks: u8, bound: usize, phase: u8, clock: u8) -> bool
+    requires { ⌜ bound ≤ 510 ⌝ }
+    ensures { λ r. ⌜ r ≡ allOf (ltb phase phases ∷ ltb clock clocks ∷ leb (lagOf phases own phase) bound ∷ []) ⌝ }
+{
+    let moved = tools::wide(own) + tools::wide(lap(own, phase, phases));
+    (phase < phases) & ((clock < clocks) & (moved <= tools::wide(phase) + bound))
+}
+
+// No pair ends the loop early: so all eight are compared at once. The limits are lent: a copy for each record would be waited for.
+fn row_ok(book: &[u8], limits: &[u8; 24], bound: usize, k: usize) -> bool
+    requires { ⌜ Ready (now book) (now limits) ⌝ }
+    requires { ⌜ (k < records) × (bound ≤ 510) ⌝ }
+    ensures { λ r. ⌜ r ≡ rowOk lagOf (fields (now (book .entry))) bound k ⌝ }
+{
+    let mut ok = true;
+    let mut j: usize = 0;
+    while j < parts::SEATS {
+        let phase = parts::phase_at(book, k, j);
+        let clock = parts::clock_at(book, k, j);
+        ok = ok
+            & pair_ok(
+                limits[OWN + j],
+                limits[PHASES + j],
+                limits[CLOCKS + j],
+                bound,
+                phase,
+                clock,
+            );
+        j += 1;
+    }
+    ok
+}
+
+fn column_zero(book: &[u8], k: usize, j: usize) -> bool
+    requires { ⌜ length (now book) ≡ bookSize ⌝ }
+    requires { ⌜ (k < records) × (j < seats) ⌝ }
+    ensures { λ r. ⌜ r ≡ columnZero (fields (now (book .entry))) k j ⌝ }
+{
+    (parts::phase_at(book, k, j) == 0) & (parts::clock_at(book, k, j) == 0)
+}
+
+fn row_zero(book: &[u8], k: usize) -> bool
+    requires { ⌜ length (now book) ≡ bookSize ⌝ }
+    requires { ⌜ k < records ⌝ }
+    ensures { λ r. ⌜ r ≡ rowZero (fields (now (book .entry))) k ⌝ }
+{
+    let mut ok = true;
+    let mut j: usize = 0;
+    while j < parts::SEATS {
+        ok = ok & column_zero(book, k, j);
+        j += 1;
+    }
+    ok
+}
+
+fn seat_rest(book: &[u8], k: usize) -> bool
+    requires { ⌜ length (now book) ≡ bookSize ⌝ }
+    requires { ⌜ k < records ⌝ }
+    ensures { λ r. ⌜ r ≡ seatRest (fields (now (book .entry))) k ⌝ }
+{
+    if parts::tag_a(book, k) == parts::FREE {
+        row_zero(book, k)
+    } else {
+        k < parts::desks_of(book)
+    }
+}
+
+fn seat_near(book: &[u8], limits: &[u8; 24], k: usize) -> bool
+    requires { ⌜ Ready (now book) (now limits) ⌝ }
+    requires { ⌜ k < records ⌝ }
+    ensures { λ r. ⌜ r ≡ seatNear lagOf (fields (now (book .entry))) k ⌝ }
+{
+    if k < parts::desks_of(book) {
+        row_ok(book, limits, tools::wide(parts::seat_lag_of(book)), k)
+    } else {
+        true
+    }
+}
+
+pub fn seat_ok(book: &[u8], limits: &[u8; 24], k: usize) -> bool
+    requires { ⌜ Ready (now book) (now limits) ⌝ }
+    requires { ⌜ k < seats ⌝ }
+    ensures { λ r. ⌜ r ≡ recordOk lagOf (fields (now (book .entry))) k ⌝ }
+{
+    (parts::tag_a(book, k) <= parts::STARTED)
+        & ((parts::tag_b(book, k) == parts::FILLER)
+            & (seat_rest(book, k) & seat_near(book, limits, k)))
+}
+
+// A place or slot that is free. Its second tag is tested apart, so that its row is one compare of sixteen bytes.
+pub fn free_ok(book: &[u8], k: usize) -> bool
+    requires { ⌜ length (now book) ≡ bookSize ⌝ }
+    requires { ⌜ (mailFrom ≤ k) × (k < records) × (fields (now book) .at k .tagA ≡ 0) ⌝ }
+    ensures { λ r. ⌜ r ≡ recordOk lagOf (fields (now (book .entry))) k ⌝ }
+{
+    if parts::tag_b(book, k) != parts::FILLER {
+        return false;
+    }
+    row_zero(book, k)
+}
+
+pub fn mail_ok(book: &[u8], limits: &[u8; 24], k: usize) -> bool
+    requires { ⌜ Ready (now book) (now limits) ⌝ }
+    requires { ⌜ (mailFrom ≤ k) × (k < shelfFrom) × Used (now book) k ⌝ }
+    ensures { λ r. ⌜ r ≡ recordOk lagOf (fields (now (book .entry))) k ⌝ }
+{
+    let a = parts::tag_a(book, k);
+    let b = parts::tag_b(book, k);
+    let d = parts::desks_of(book);
+    (tools::wide(a) <= d)
+        & ((1 <= b)
+            & ((tools::wide(b) <= d)
+                & ((a != b) & row_ok(book, limits, 2 * tools::wide(parts::seat_lag_of(book)), k))))
+}
+
+pub fn slot_ok(book: &[u8], limits: &[u8; 24], k: usize) -> bool
+    requires { ⌜ Ready (now book) (now limits) ⌝ }
+    requires { ⌜ (shelfFrom ≤ k) × (k < records) × Used (now book) k ⌝ }
+    ensures { λ r. ⌜ r ≡ recordOk lagOf (fields (now (book .entry))) k ⌝ }
+{
+    (parts::tag_b(book, k) == parts::FILLER)
+        & ((tools::wide(parts::tag_a(book, k)) <= parts::desks_of(book))
+            & row_ok(book, limits, parts::shelf_lag_of(book), k))
+}
