@@ -18,8 +18,8 @@ static int done(uint8_t answer)
     return answer == GULAMBITOK_DONE;
 }
 
-/* Only a send has a place, and only a kept event a slot. */
-static void print_event(uint8_t answer, const uint8_t *place, const uint8_t *slot)
+/* Only a send has a place, only a receive what it learnt, and only a kept event a slot. */
+static void print_event(uint8_t answer, const uint8_t *place, const uint8_t *learnt, const uint8_t *slot)
 {
     if (done(answer)) {
         if (place)
@@ -29,6 +29,8 @@ static void print_event(uint8_t answer, const uint8_t *place, const uint8_t *slo
             const uint8_t *pair = stamp + GULAMBITOK_STAMP_ROW_AT + 2 * desk;
             printf(" %03d.%03d", pair[0], pair[1]);
         }
+        if (learnt)
+            printf(" %03d", *learnt);
         if (slot)
             printf(" %03d", *slot);
     }
@@ -37,19 +39,22 @@ static void print_event(uint8_t answer, const uint8_t *place, const uint8_t *slo
 
 int main(void)
 {
-    uint8_t place = 0, first = 0, second = 0, relation = 0;
+    uint8_t place = 0, learnt = 0, first = 0, second = 0, relation = 0;
 
     done(gulambitok_start(book, sizeof book, 2, 3, 3, 1, 1, 1, 1));
     puts("");
-    print_event(gulambitok_local(book, sizeof book, 0, 1, stamp, sizeof stamp, &first, 1), NULL, &first);
+    print_event(gulambitok_local(book, sizeof book, 0, 1, stamp, sizeof stamp, &first, 1),
+                NULL, NULL, &first);
     print_event(gulambitok_send(book, sizeof book, 0, 1, 0, stamp, sizeof stamp, &place, 1, NULL, 0),
-                &place, NULL);
-    print_event(gulambitok_receive(book, sizeof book, 1, place, 1, stamp, sizeof stamp, &second, 1),
-                NULL, &second);
+                &place, NULL, NULL);
+    print_event(gulambitok_receive(book, sizeof book, 1, place, 1, stamp, sizeof stamp, &learnt, 1,
+                                   &second, 1),
+                NULL, &learnt, &second);
     if (done(gulambitok_compare(book, sizeof book, first, second, &relation, 1)))
         printf(" %s", relations[relation]);
     puts("");
     for (int turn = 0; turn < 2; turn++)
-        print_event(gulambitok_reset(book, sizeof book, 0, 0, stamp, sizeof stamp, NULL, 0), NULL, NULL);
+        print_event(gulambitok_reset(book, sizeof book, 0, 0, stamp, sizeof stamp, NULL, 0),
+                    NULL, NULL, NULL);
     return 0;
 }

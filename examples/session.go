@@ -40,14 +40,15 @@ func stampFields() string {
 }
 
 func main() {
-	var place, first, second, relation number
+	var place, learnt, first, second, relation number
 	printLine(C.gulambitok_start(&book[0], bookLen, 2, 3, 3, 1, 1, 1, 1), "")
 	answer := C.gulambitok_local(&book[0], bookLen, 0, 1, &stamp[0], stampLen, &first, 1)
 	printLine(answer, stampFields()+fmt.Sprintf(" %03d", first))
 	answer = C.gulambitok_send(&book[0], bookLen, 0, 1, 0, &stamp[0], stampLen, &place, 1, nil, 0)
 	printLine(answer, fmt.Sprintf(" %03d", place)+stampFields())
-	answer = C.gulambitok_receive(&book[0], bookLen, 1, C.size_t(place), 1, &stamp[0], stampLen, &second, 1)
-	printLine(answer, stampFields()+fmt.Sprintf(" %03d", second))
+	answer = C.gulambitok_receive(&book[0], bookLen, 1, C.size_t(place), 1, &stamp[0], stampLen,
+		&learnt, 1, &second, 1)
+	printLine(answer, stampFields()+fmt.Sprintf(" %03d %03d", learnt, second))
 	answer = C.gulambitok_compare(&book[0], bookLen, C.size_t(first), C.size_t(second), &relation, 1)
 	printLine(answer, " "+relations[relation])
 	for turn := 0; turn < 2; turn++ {

@@ -40,12 +40,13 @@ def buffer(size):
 NOTHING = buffer(0)
 
 book, stamp = buffer(1456), buffer(20)
-place, first, second, relation = buffer(1), buffer(1), buffer(1), buffer(1)
+place, learnt, first, second, relation = (buffer(1) for _ in range(5))
 
 print_line(call("start", book, 2, 3, 3, 1, 1, 1, 1))
 print_line(call("local", book, 0, 1, stamp, first), *stamp_fields(stamp), f"{first[0]:03}")
 print_line(call("send", book, 0, 1, 0, stamp, place, NOTHING), f"{place[0]:03}", *stamp_fields(stamp))
-print_line(call("receive", book, 1, place[0], 1, stamp, second), *stamp_fields(stamp), f"{second[0]:03}")
+print_line(call("receive", book, 1, place[0], 1, stamp, learnt, second),
+           *stamp_fields(stamp), f"{learnt[0]:03}", f"{second[0]:03}")
 print_line(call("compare", book, first[0], second[0], relation), RELATIONS.get(relation[0]))
 print_line(call("reset", book, 0, 0, stamp, NOTHING), *stamp_fields(stamp))
 print_line(call("reset", book, 0, 0, stamp, NOTHING), *stamp_fields(stamp))

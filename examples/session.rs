@@ -15,7 +15,7 @@ extern "C" {
                        stamp: &mut [u8; STAMP], stamp_len: usize, place: &mut u8, place_len: usize,
                        slot: Option<&mut u8>, slot_len: usize) -> u8;
     fn gulambitok_receive(book: &mut [u8; BOOK], book_len: usize, desk: usize, place: usize, keep: usize,
-                          stamp: &mut [u8; STAMP], stamp_len: usize,
+                          stamp: &mut [u8; STAMP], stamp_len: usize, learnt: &mut u8, learnt_len: usize,
                           slot: Option<&mut u8>, slot_len: usize) -> u8;
     fn gulambitok_reset(book: &mut [u8; BOOK], book_len: usize, desk: usize, keep: usize,
                         stamp: &mut [u8; STAMP], stamp_len: usize,
@@ -36,7 +36,7 @@ fn stamp_fields(stamp: &[u8; STAMP]) -> String {
 
 fn main() {
     let (mut book, mut stamp) = ([0; BOOK], [0; STAMP]);
-    let (mut place, mut first, mut second, mut relation) = (0, 0, 0, 0);
+    let (mut place, mut learnt, mut first, mut second, mut relation) = (0, 0, 0, 0, 0);
     // Each length below is that of the array or byte before it, 0 where there is none. No two overlap.
     unsafe {
         print_line(gulambitok_start(&mut book, BOOK, 2, 3, 3, 1, 1, 1, 1), "");
@@ -45,8 +45,8 @@ fn main() {
         let answer = gulambitok_send(&mut book, BOOK, 0, 1, 0, &mut stamp, STAMP, &mut place, 1, None, 0);
         print_line(answer, &(format!(" {place:03}") + &stamp_fields(&stamp)));
         let answer = gulambitok_receive(&mut book, BOOK, 1, place.into(), 1, &mut stamp, STAMP,
-                                        Some(&mut second), 1);
-        print_line(answer, &(stamp_fields(&stamp) + &format!(" {second:03}")));
+                                        &mut learnt, 1, Some(&mut second), 1);
+        print_line(answer, &(stamp_fields(&stamp) + &format!(" {learnt:03} {second:03}")));
         let answer = gulambitok_compare(&book, BOOK, first.into(), second.into(), &mut relation, 1);
         print_line(answer, &format!(" {}", RELATIONS[relation as usize]));
         for _ in 0..2 {

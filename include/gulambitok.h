@@ -132,9 +132,11 @@ uint8_t gulambitok_send(uint8_t *book, size_t book_len, size_t desk, size_t to, 
 
 /* Receive at a desk from a place: its own clock grows by 1; for every other desk the later of the
  * two pairs is taken; the place becomes free. Any waiting mail may be taken, in any order. Writes
- * the stamp. Refusals: 1, 3, 5, 6, 8, 10, 15. */
+ * the stamp, and in one byte how many other desks' entries changed, 0 to 7; 0 where the mail told
+ * nothing. Refusals: 1, 3, 5, 6, 8, 10, 15. */
 uint8_t gulambitok_receive(uint8_t *book, size_t book_len, size_t desk, size_t place, size_t keep,
-                           uint8_t *stamp, size_t stamp_len, uint8_t *slot, size_t slot_len);
+                           uint8_t *stamp, size_t stamp_len, uint8_t *learnt, size_t learnt_len,
+                           uint8_t *slot, size_t slot_len);
 
 /* Reset at a desk: its own phase grows by 1 modulo P and its own clock becomes 0; no other seat
  * changes. Writes the stamp. Refusals: 1, 3, 10, 11, 12, 13, 15. */

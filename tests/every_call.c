@@ -1,5 +1,5 @@
 /* Makes each call of gulambitok.h, accepted and refused, so that header and archive cannot differ
- * unseen. The setup is X, of three desks. */
+ * unseen. The setup is X, of three desks, where nothing else is said. */
 #include "gulambitok.h"
 
 #include <stdio.h>
@@ -8,7 +8,7 @@
 /* All that is lent, so that one comparison sees every byte. */
 struct lent {
     uint8_t book[GULAMBITOK_BOOK_BYTES], stamp[GULAMBITOK_STAMP_BYTES + 1], place[2], slot[2];
-    uint8_t answer[2], row[GULAMBITOK_ROW_BYTES + 1], first[GULAMBITOK_STAMP_BYTES + 1];
+    uint8_t learnt[2], answer[2], row[GULAMBITOK_ROW_BYTES + 1], first[GULAMBITOK_STAMP_BYTES + 1];
     uint8_t second[GULAMBITOK_STAMP_BYTES];
 };
 
@@ -78,19 +78,22 @@ static void send_and_receive(void)
     REFUSED(NO_ROOM, gulambitok_send(BOOK, 0, 1, 1, now.stamp, 20, now.place, 1, NULL, 0));
     DONE(gulambitok_send(BOOK, 0, 1, 0, now.stamp, 20, now.place, 2, NULL, 0));
     EXPECT(now.place[0] == 0 && now.place[1] == 0xEE && now.stamp[5] == 2);
-    REFUSED(NOT_YOURS, gulambitok_receive(BOOK, 2, 0, 0, now.stamp, 20, NULL, 0));
-    REFUSED(NO_PLACE, gulambitok_receive(BOOK, 1, 256, 0, now.stamp, 20, NULL, 0));
-    REFUSED(NO_ROOM, gulambitok_receive(BOOK, 1, 0, 0, now.stamp, 19, NULL, 0));
-    REFUSED(NO_ROOM, gulambitok_receive(BOOK, 1, 0, 256, now.stamp, 20, NULL, 0));
+    REFUSED(NOT_YOURS, gulambitok_receive(BOOK, 2, 0, 0, now.stamp, 20, NULL, 0, NULL, 0));
+    REFUSED(NO_PLACE, gulambitok_receive(BOOK, 1, 256, 0, now.stamp, 20, now.learnt, 1, NULL, 0));
+    REFUSED(NO_ROOM, gulambitok_receive(BOOK, 1, 0, 0, now.stamp, 19, now.learnt, 1, NULL, 0));
+    REFUSED(NO_ROOM, gulambitok_receive(BOOK, 1, 0, 0, now.stamp, 20, NULL, 0, NULL, 0));
+    REFUSED(NO_ROOM, gulambitok_receive(BOOK, 1, 0, 1, now.stamp, 20, now.learnt, 0, now.slot, 1));
+    REFUSED(NO_ROOM, gulambitok_receive(BOOK, 1, 0, 256, now.stamp, 20, now.learnt, 1, NULL, 0));
     DONE(gulambitok_send(BOOK, 0, 2, 1, now.stamp, 20, now.place, 1, now.slot, 2));
     EXPECT(now.place[0] == 1 && now.slot[0] == 0 && now.slot[1] == 0xEE && now.stamp[5] == 3);
-    DONE(gulambitok_receive(BOOK, 1, 0, 1, now.stamp, 20, now.slot, 2));
+    DONE(gulambitok_receive(BOOK, 1, 0, 1, now.stamp, 20, now.learnt, 2, now.slot, 2));
     EXPECT(memcmp(now.stamp, "ST\1\3\0\2\0\1", 8) == 0);
-    EXPECT(now.slot[0] == 1 && now.slot[1] == 0xEE);
+    EXPECT(now.learnt[0] == 1 && now.learnt[1] == 0xEE && now.slot[0] == 1 && now.slot[1] == 0xEE);
     DONE(gulambitok_discard(BOOK, 1));
     REFUSED(NO_PLACE, gulambitok_discard(BOOK, 1));
     DONE(gulambitok_send(BOOK, 1, 2, 0, now.stamp, 20, now.place, 1, NULL, 0));
-    DONE(gulambitok_receive(BOOK, 2, 0, 0, now.stamp, 20, now.slot, 2));
+    DONE(gulambitok_receive(BOOK, 2, 0, 0, now.stamp, 20, now.learnt, 2, now.slot, 2));
+    EXPECT(now.learnt[0] == 2 && now.learnt[1] == 0xEE);
     EXPECT(now.slot[0] == 1 && memcmp(now.stamp, "ST\2\3\0\2\0\2\0\2", 10) == 0);
     REFUSED(PHASE_FULL, gulambitok_local(BOOK, 0, 1, NULL, 0, NULL, 0));
 }
@@ -176,9 +179,10 @@ static void full_shelf(void)
     }
     REFUSED(SHELF_FULL, gulambitok_local(BOOK, 0, 1, NULL, 0, NULL, 0));
     REFUSED(SHELF_FULL, gulambitok_send(BOOK, 0, 1, 1, now.stamp, 20, now.place, 1, now.slot, 1));
-    REFUSED(SHELF_FULL, gulambitok_receive(BOOK, 2, 0, 256, now.stamp, 20, now.slot, 1));
+    REFUSED(SHELF_FULL, gulambitok_receive(BOOK, 2, 0, 256, now.stamp, 20, NULL, 0, now.slot, 1));
     REFUSED(SHELF_FULL, gulambitok_reset(BOOK, 0, 1, now.stamp, 20, now.slot, 1));
-    DONE(gulambitok_receive(BOOK, 2, 0, 0, now.stamp, 20, NULL, 0));
+    DONE(gulambitok_receive(BOOK, 2, 0, 0, now.stamp, 20, now.learnt, 1, NULL, 0));
+    EXPECT(now.learnt[0] == 1);
     DONE(gulambitok_reset(BOOK, 0, 0, now.stamp, 20, NULL, 0));
     DONE(gulambitok_reset(BOOK, 0, 0, now.stamp, 20, NULL, 0));
     REFUSED(SHELF_FULL, gulambitok_reset(BOOK, 0, 1, now.stamp, 20, now.slot, 1));
@@ -186,6 +190,46 @@ static void full_shelf(void)
     DONE(gulambitok_drop(BOOK, 9));
     DONE(gulambitok_local(BOOK, 1, 1, now.stamp, 20, now.slot, 1));
     EXPECT(now.slot[0] == 9);
+}
+
+static void mail(size_t desk, size_t to)
+{
+    DONE(gulambitok_send(BOOK, desk, to, 0, now.stamp, 20, now.place, 1, NULL, 0));
+}
+
+static uint8_t learnt(size_t desk, size_t place)
+{
+    DONE(gulambitok_receive(BOOK, desk, place, 0, now.stamp, 20, now.learnt, 1, NULL, 0));
+    return now.learnt[0];
+}
+
+/* Word goes round eight desks: each hears of one desk more, and the first of the seven others. */
+static void mail_that_tells_more(void)
+{
+    DONE(gulambitok_start(BOOK, 8, 5, 40, 2, 4, 2, 2));
+    for (size_t desk = 0; desk < 7; desk++) {
+        mail(desk, desk + 1);
+        EXPECT(learnt(desk + 1, 0) == desk + 1);
+    }
+    mail(7, 0);
+    EXPECT(learnt(0, 0) == 7);
+    mail(7, 0);
+    DONE(gulambitok_receive(BOOK, 0, 0, 1, now.stamp, 20, now.learnt, 1, now.slot, 1));
+    EXPECT(now.learnt[0] == 1 && now.slot[0] == 0);
+}
+
+/* Under L=40 mails of desk 0 at 0.1, 0.2, 0.3 and, after its reset, 1.1 wait in places 0 to 3. */
+static void mail_that_tells_nothing(void)
+{
+    DONE(gulambitok_start(BOOK, 3, 5, 40, 2, 4, 2, 2));
+    for (int place = 0; place < 3; place++)
+        mail(0, 1);
+    DONE(gulambitok_reset(BOOK, 0, 0, now.stamp, 20, NULL, 0));
+    mail(0, 1);
+    EXPECT(learnt(1, 1) == 1);
+    EXPECT(learnt(1, 0) == 0 && memcmp(now.stamp, "ST\1\3\0\2\0\2", 8) == 0);
+    EXPECT(learnt(1, 3) == 1 && memcmp(now.stamp, "ST\1\3\1\1\0\3", 8) == 0);
+    EXPECT(learnt(1, 2) == 0 && memcmp(now.stamp, "ST\1\3\1\1\0\4", 8) == 0);
 }
 
 int main(void)
@@ -199,5 +243,7 @@ int main(void)
     reset_and_labels();
     reset_edge();
     full_shelf();
+    mail_that_tells_more();
+    mail_that_tells_nothing();
     return wrong;
 }

@@ -43,7 +43,7 @@ static uint8_t call(uint8_t place, const size_t *n, const struct lent *lent)
     case 0: return gulambitok_start(LENT(0), SETUP);
     case 1: return gulambitok_local(LENT(0), n[0], n[1], LENT(1), LENT(2));
     case 2: return gulambitok_send(LENT(0), n[0], n[1], n[2], LENT(1), LENT(2), LENT(3));
-    case 3: return gulambitok_receive(LENT(0), n[0], n[1], n[2], LENT(1), LENT(2));
+    case 3: return gulambitok_receive(LENT(0), n[0], n[1], n[2], LENT(1), LENT(2), LENT(3));
     case 4: return gulambitok_reset(LENT(0), n[0], n[1], LENT(1), LENT(2));
     case 5: return gulambitok_drop(LENT(0), n[0]);
     case 6: return gulambitok_discard(LENT(0), n[0]);

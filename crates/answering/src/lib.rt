@@ -18,7 +18,7 @@ fn obey(book: &mut [u8], out: &mut [u8], at: usize, c: Command) -> usize
         Command::Start(s) => replies::put_number(out, at, portal::start(book, s)),
         Command::Local(d, q) => replies::put_stamped(out, at, desks, portal::local(book, d, q)),
         Command::Send(d, k, q) => replies::put_sent(out, at, desks, portal::send(book, d, k, q)),
-        Command::Receive(d, p, q) => replies::put_stamped(
+        Command::Receive(d, p, q) => replies::put_received(
             out,
             at,
             desks,

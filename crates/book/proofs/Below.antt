@@ -1,7 +1,7 @@
 -- Every phase of a sound book is on the ring, also where there is no desk.
 -- Assumes nothing.
 use Prim.Native.Nat.{ℕ, _+_, _*_, _<_, _≤_}
-use mathlib.Core.Path.{_≡_, ap, _∙_}
+use mathlib.Core.Path.{_≡_, refl, ap, _∙_}
 use mathlib.Core.Bool.{true}
 use mathlib.Core.Option.{Option, none, some}
 use mathlib.Core.List.{List}
@@ -11,7 +11,7 @@ use Rattle.tools.specs.Tables.{Each}
 use Rattle.tools.specs.Lists.{byte}
 use Rattle.tools.proofs.Tests.{lt-or-le}
 use Rattle.ring.specs.Phases.{Pair}
-use Rattle.rules.specs.Model.{Row, Seat, Held, rowIn}
+use Rattle.rules.specs.Model.{Row, Seat, Held, zeros, rowIn}
 use Rattle.rules.specs.Model.{phases}
 use Rattle.book.specs.Fits.{RowFits, MailFits, SlotFits, Fits}
 use Rattle.rules.proofs.Setups.{permitted}
@@ -43,6 +43,19 @@ module _ (s : List ℕ) (h : sound s ≡ true) where
 
   fits : Fits (setupOf s) (tablesOf s)
   fits = sound-fits s h
+
+  -- of a desk that is not there every row holds 0, 0
+  pub seat-beyond : (j k : ℕ) → byte s 2 ≤ k → tablesOf s .seat j .row k ≡ zeros k
+  seat-beyond j k l =
+      ⊎-elim (λ (m : j < byte s 2). fits .seats j m k .1 l)
+      (λ (m : byte s 2 ≤ j). ap (λ (t : Seat). t .row k) (fits .beyond j m)) (lt-or-le j (byte s 2))
+
+  pub mail-beyond : (p k : ℕ) → byte s 2 ≤ k → rowIn (tablesOf s .mail p) k ≡ zeros k
+  mail-beyond p k l = go (tablesOf s .mail p) (fits .mail p)
+    where
+      go : (o : Option Held) → Each (MailFits (setupOf s) (phases (tablesOf s)) p) o → rowIn o k ≡ zeros k
+      go none f = refl
+      go (some w) f = f .row k .1 l
 
   pub phase-below : (k j : ℕ) → k < records → j < 8 → byte s (spot k (rowSpot + phaseSpot j)) < byte s 3
   phase-below k j lk lj =

@@ -13,7 +13,7 @@ use Rattle.ring.specs.Phases.{lagOf, nextOf, ring, Pair, isLater, later}
 use Rattle.ring.proofs.Ring.{lag-self, lag-next, next-below, later-lag}
 use Rattle.rules.specs.declared.Setup.{Setup}
 use Rattle.rules.specs.Model.{Row, Seat, Held, Tables, Act, local, reset, send, receive, drop, discard, ask}
-use Rattle.rules.specs.Model.{step, done, why, fresh, idle, zeros, grown, merged, turned, seated, freeMail, slotFor, rowIn}
+use Rattle.rules.specs.Model.{step, done, why, fresh, idle, zeros, grown, taken, merged, turned, seated, freeMail, slotFor, rowIn}
 use Rattle.rules.specs.Model.{used, own, lags, seatLags, tick, turn, settle}
 use Rattle.rules.specs.Model.{phases}
 use Rattle.book.specs.Fits.{InRange, PairFits, RowFits, MailFits, SlotFits, FitsAt, Fits}
@@ -67,7 +67,7 @@ module _ (X : Setup) (ok : Permitted X) (b : Tables) (w : Fits X b) where
       (record { phase = own-range j l .phase; clock = c; lag = own-range j l .lag }) (λ k ne. w .seats j l k)
 
   later-fits : (k : ℕ) (x y : Pair) (C : ℕ) → PairFits X (phases b k) (X .seatLag) k x → PairFits X (phases b k) C k y
-      → PairFits X (phases b k) (X .seatLag) k (later (Z X) (phases b k) x y)
+      → PairFits X (phases b k) (X .seatLag) k (later (Z X) (phases b k) x y .pair)
   later-fits k x y C f g = go (isLater (Z X) (phases b k) y x) refl
     where
       go : (t : Bool) → isLater (Z X) (phases b k) y x ≡ t → PairFits X (phases b k) (X .seatLag) k (pick t y x)
@@ -84,7 +84,7 @@ module _ (X : Setup) (ok : Permitted X) (b : Tables) (w : Fits X b) where
   merged-fits : (j : ℕ) (m : Row) (C : ℕ) → j < X .desks → own b j .clock + 1 < X .clocks → RowFits X (phases b) C m
       → RowFits X (phases b) (X .seatLag) (merged (Z X) b j m)
   merged-fits j m C l c f =
-      put-fits (phases b) (X .seatLag) (λ k. later (Z X) (phases b k) (b .seat j .row k) (m k)) j (tick (own b j)) l
+      put-fits (phases b) (X .seatLag) (λ k. taken (Z X) b j m k .pair) j (tick (own b j)) l
       (record { phase = own-range j l .phase; clock = c; lag = own-range j l .lag })
       (λ k ne. later-fits k (b .seat j .row k) (m k) C (w .seats j l k) (f k))
 
@@ -241,7 +241,7 @@ module _ (X : Setup) (ok : Permitted X) (b : Tables) (w : Fits X b) where
       let n = no-receive (Z X) X b j p q e in
       quiet j (merged (Z X) b j (rowIn (b .mail p))) (slotFor b q) _ (n .0) (n .4)
       (ap (λ (q : Pair). q .phase)
-      (put-same (λ k. later (Z X) (phases b k) (b .seat j .row k) (rowIn (b .mail p) k)) j (tick (own b j))))
+      (put-same (λ k. taken (Z X) b j (rowIn (b .mail p)) k .pair) j (tick (own b j))))
       (merged-fits j (rowIn (b .mail p)) (2 * X .seatLag) (n .0) (n .2) (mail-row p (n .1)))
       (put-all (λ p o. Each (MailFits X (phases b) p) o) (b .mail) p none tt (λ p ne. w .mail p))
   done-fits (reset j q) e = reset-fits j q e

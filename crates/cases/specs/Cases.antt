@@ -1,13 +1,14 @@
 -- The starred cases that need no bytes, the listing of the rules, a run for each error that the desks would make, runs that ask of
--- resets, and one for each refusal that these leave out. Refusals are by their literal numbers.
+-- resets, runs whose mails tell more or less, and one for each refusal that these leave out. Refusals are by their literal numbers.
 -- Assumes nothing.
 --   setupWith P A     the setup of the cases with a ring of P, and kept stamps that may lag A; X, that with 5 and 4
 --   uneven            X with m of 1 and n of 3
 --   narrow, small     two desks that may lag one phase, as in the listing; the same with clocks and a reach to spare
 --   pair v t          the pair v.t
 --   Made, Shown       a stamp, and a value, as the listing shows it
+--   event p j ps      a stamp, with the place p where it has one
 --   plain, made, posted, word, stands   nothing shown; a stamp; a stamp with its place; yes or no; a relation
---   inSlot s v        the stamp v with its slot s, last
+--   learning n v      the stamp v of a receive with the number n of desks learnt of; inSlot s v, the stamp v with its slot s, last
 --   pairs k n r       n pairs of the row r, from desk k on
 --   cut D e, shown D v   a stamp, and the value v, as the listing shows it, with D pairs
 --   Line              a number, and what is shown with it
@@ -22,11 +23,13 @@
 --   told-lines p v t  the lines of that: v the phase that desk 0 comes to, t the clock of desk 1
 --   errors            a run for each error that the desks would make; that of a received mail's place is case 12
 --   resets            runs that ask of resets, which reach a phase further back, and of other events
+--   letters           runs whose mails tell of no desk, of one and of two
 --   upTo n            the numbers below n
 --   filling           32 kept events of desk 0, which fill the shelf; filled, their lines
 --   room              runs on places and slots: full ones, freed ones, and a stamp written or kept too long
 --   all               all of these
---   laterOf own       the later of phases 4 and 0 in either order, on a ring of 5, at that own phase
+--   took v t          v.0 is taken, and t says whether the held pair changed
+--   laterOf own       what is taken of phases 4 and 0, the first held, and of 0 and 4, on a ring of 5, at that own phase
 --   apart up down     a difference within reach
 --   stampAt v t       a stamp of desk 0 with the pairs v.t
 --   reachFrom v t vs  the differences off the book from that stamp to those of the phases vs; numbersFrom, the numbers of before
@@ -38,7 +41,7 @@ use mathlib.Core.List.{List, [], _∷_, _++_, map}
 use Prim.Native.Nat.{ℕ, zero, suc, _+_}
 use lib.ListN.{replicate}
 use Rattle.tools.specs.Lists.{tab}
-use Rattle.ring.specs.Phases.{Pair, Gap, ring, later}
+use Rattle.ring.specs.Phases.{Pair, Gap, ring, Taken, later}
 use Rattle.rules.specs.declared.Setup.{Setup}
 use Rattle.rules.specs.declared.Relation.{Relation}
 use Rattle.rules.specs.declared.Relation.the-variants.{Before, After, Same, Concurrent}
@@ -69,27 +72,43 @@ pub record Made : Type 0 where
 pub record Shown : Type 0 where
   pub place : Option ℕ
   pub stamp : Option Made
+  pub learnt : Option ℕ
   pub slot : Option ℕ
   pub verdict : Option Bool
   pub relation : Option Relation
 
 abbrev pub plain : Shown
-plain = record { place = none; stamp = none; slot = none; verdict = none; relation = none }
+plain = record { place = none; stamp = none; learnt = none; slot = none; verdict = none; relation = none }
+
+abbrev pub event : Option ℕ → ℕ → List Pair → Shown
+event p j ps =
+    record {
+      place = p;
+      stamp = some record { owner = j; pairs = ps };
+      learnt = none;
+      slot = none;
+      verdict = none;
+      relation = none;
+    }
 
 abbrev pub made : ℕ → List Pair → Shown
-made j ps = record { place = none; stamp = some record { owner = j; pairs = ps }; slot = none; verdict = none; relation = none }
+made = event none
 
 abbrev pub posted : ℕ → ℕ → List Pair → Shown
-posted p j ps = record { place = some p; stamp = some record { owner = j; pairs = ps }; slot = none; verdict = none; relation = none }
+posted p = event (some p)
+
+abbrev pub learning : ℕ → Shown → Shown
+learning n v = record { place = none; stamp = v .stamp; learnt = some n; slot = none; verdict = none; relation = none }
 
 abbrev pub inSlot : ℕ → Shown → Shown
-inSlot s v = record { place = v .place; stamp = v .stamp; slot = some s; verdict = none; relation = none }
+inSlot s v =
+    record { place = v .place; stamp = v .stamp; learnt = v .learnt; slot = some s; verdict = none; relation = none }
 
 abbrev pub word : Bool → Shown
-word t = record { place = none; stamp = none; slot = none; verdict = some t; relation = none }
+word t = record { place = none; stamp = none; learnt = none; slot = none; verdict = some t; relation = none }
 
 abbrev pub stands : Relation → Shown
-stands r = record { place = none; stamp = none; slot = none; verdict = none; relation = some r }
+stands r = record { place = none; stamp = none; learnt = none; slot = none; verdict = none; relation = some r }
 
 unfoldable pub pairs : ℕ → ℕ → Row → List Pair
 pairs k zero r = []
@@ -101,7 +120,14 @@ cut D (some e) = some record { owner = e .owner; pairs = pairs 0 D (e .row) }
 
 abbrev pub shown : ℕ → Value → Shown
 shown D v =
-    record { place = v .place; stamp = cut D (v .stamp); slot = v .slot; verdict = v .verdict; relation = v .relation }
+    record {
+      place = v .place;
+      stamp = cut D (v .stamp);
+      learnt = v .learnt;
+      slot = v .slot;
+      verdict = v .verdict;
+      relation = v .relation;
+    }
 
 pub record Line : Type 0 where
   pub number : ℕ
@@ -157,7 +183,7 @@ starred =
     ∷ opened X (on (send 0 1 false) ∷ on (receive 2 0 false) ∷ on (receive 1 0 false) ∷ on (receive 1 0 false) ∷ [])
     (told (posted 0 0 (pair 0 1 ∷ pair 0 0 ∷ pair 0 0 ∷ []))
     ∷ refused 6
-    ∷ told (made 1 (pair 0 1 ∷ pair 0 1 ∷ pair 0 0 ∷ []))
+    ∷ told (learning 1 (made 1 (pair 0 1 ∷ pair 0 1 ∷ pair 0 0 ∷ [])))
     ∷ refused 5
     ∷ [])
     ∷ []
@@ -174,7 +200,7 @@ listing =
     ∷ [])
     (told (inSlot 0 (made 0 (pair 0 1 ∷ pair 0 0 ∷ [])))
     ∷ told (posted 0 0 (pair 0 2 ∷ pair 0 0 ∷ []))
-    ∷ told (inSlot 1 (made 1 (pair 0 2 ∷ pair 0 1 ∷ [])))
+    ∷ told (inSlot 1 (learning 1 (made 1 (pair 0 2 ∷ pair 0 1 ∷ []))))
     ∷ told (stands Before)
     ∷ told (made 0 (pair 1 0 ∷ pair 0 0 ∷ []))
     ∷ refused 11
@@ -190,7 +216,7 @@ abbrev pub told-lines : ℕ → ℕ → ℕ → List Line
 told-lines p v t =
     told (made 0 (pair v 0 ∷ pair 0 0 ∷ []))
     ∷ told (posted p 0 (pair v 1 ∷ pair 0 0 ∷ []))
-    ∷ told (made 1 (pair v 1 ∷ pair 0 t ∷ []))
+    ∷ told (learning 1 (made 1 (pair v 1 ∷ pair 0 t ∷ [])))
     ∷ []
 
 abbrev pub errors : List Case
@@ -210,7 +236,7 @@ errors =
     (told-lines 0 1 1
     ++ told (made 0 (pair 2 0 ∷ pair 0 0 ∷ []))
     ∷ told (posted 0 0 (pair 2 1 ∷ pair 0 0 ∷ []))
-    ∷ told (inSlot 0 (made 1 (pair 2 1 ∷ pair 0 2 ∷ [])))
+    ∷ told (inSlot 0 (learning 1 (made 1 (pair 2 1 ∷ pair 0 2 ∷ []))))
     ∷ told (inSlot 1 (made 0 (pair 0 0 ∷ pair 0 0 ∷ [])))
     ∷ told (word false)
     ∷ told (stands Concurrent)
@@ -222,7 +248,7 @@ errors =
     ∷ opened small (on (send 0 1 false) ∷ on (local 1 false) ∷ on (receive 1 0 false) ∷ [])
     (told (posted 0 0 (pair 0 1 ∷ pair 0 0 ∷ []))
     ∷ told (made 1 (pair 0 0 ∷ pair 0 1 ∷ []))
-    ∷ told (made 1 (pair 0 1 ∷ pair 0 2 ∷ []))
+    ∷ told (learning 1 (made 1 (pair 0 1 ∷ pair 0 2 ∷ [])))
     ∷ [])
     -- giving "concurrent" when one direction is out of reach: at desk 1 the difference is 0, at desk 0 it is -2, OutOfReach
     ∷ opened X
@@ -284,6 +310,34 @@ resets =
     ∷ [])
     ∷ []
 
+abbrev pub letters : List Case
+letters =
+    -- desk 1 passes on what it heard: its mail tells desk 2 of both; the older mail in place 0 then tells nothing
+    opened X
+    (on (send 0 2 false)
+    ∷ on (send 0 1 false)
+    ∷ on (receive 1 1 false)
+    ∷ on (send 1 2 false)
+    ∷ on (receive 2 1 true)
+    ∷ on (receive 2 0 false)
+    ∷ [])
+    (told (posted 0 0 (pair 0 1 ∷ pair 0 0 ∷ pair 0 0 ∷ []))
+    ∷ told (posted 1 0 (pair 0 2 ∷ pair 0 0 ∷ pair 0 0 ∷ []))
+    ∷ told (learning 1 (made 1 (pair 0 2 ∷ pair 0 1 ∷ pair 0 0 ∷ [])))
+    ∷ told (posted 1 1 (pair 0 2 ∷ pair 0 2 ∷ pair 0 0 ∷ []))
+    ∷ told (inSlot 0 (learning 2 (made 2 (pair 0 2 ∷ pair 0 2 ∷ pair 0 1 ∷ []))))
+    ∷ told (learning 0 (made 2 (pair 0 2 ∷ pair 0 2 ∷ pair 0 2 ∷ [])))
+    ∷ [])
+    -- a mail of phase 1 waits while the phase comes round to 0: it is the older one, and tells nothing
+    ∷ opened small (told-by 0 ++ on (send 0 1 false) ∷ told-by 1 ++ told-by 1 ++ on (receive 1 0 false) ∷ [])
+    (told-lines 0 1 1
+    ++ told (posted 0 0 (pair 1 2 ∷ pair 0 0 ∷ []))
+    ∷ told-lines 1 2 2
+    ++ told-lines 1 0 3
+    ++ told (learning 0 (made 1 (pair 0 1 ∷ pair 0 4 ∷ [])))
+    ∷ [])
+    ∷ []
+
 abbrev pub upTo : ℕ → List ℕ
 upTo n = tab 0 n (λ i. i)
 
@@ -328,11 +382,11 @@ room =
     ∷ refused 10
     ∷ refused 10
     ∷ told (posted 1 0 (pair 0 34 ∷ pair 0 0 ∷ []))
-    ∷ told (made 1 (pair 0 33 ∷ pair 0 1 ∷ []))
+    ∷ told (learning 1 (made 1 (pair 0 33 ∷ pair 0 1 ∷ [])))
     ∷ told plain
     ∷ told plain
     ∷ told (inSlot 7 (posted 0 0 (pair 0 35 ∷ pair 0 0 ∷ [])))
-    ∷ told (inSlot 9 (made 1 (pair 0 34 ∷ pair 0 2 ∷ [])))
+    ∷ told (inSlot 9 (learning 1 (made 1 (pair 0 34 ∷ pair 0 2 ∷ []))))
     ∷ [])
     -- the smallest number: a reset that is to be kept on a full shelf is ShelfFull also where the seat lags, else SeatBehind
     ∷ opened small (filling ++ on (reset 0 false) ∷ on (reset 0 true) ∷ on (reset 0 false) ∷ [])
@@ -351,7 +405,7 @@ room =
     ∷ told (posted 1 0 (pair 0 2 ∷ pair 0 0 ∷ []))
     ∷ told plain
     ∷ refused 5
-    ∷ told (made 1 (pair 0 2 ∷ pair 0 1 ∷ []))
+    ∷ told (learning 1 (made 1 (pair 0 2 ∷ pair 0 1 ∷ [])))
     ∷ told (posted 0 0 (pair 0 3 ∷ pair 0 0 ∷ []))
     ∷ refused 5
     ∷ [])
@@ -388,9 +442,12 @@ room =
     ∷ []
 
 abbrev pub all : List Case
-all = starred ++ listing ∷ errors ++ resets ++ room
+all = starred ++ listing ∷ errors ++ resets ++ letters ++ room
 
-abbrev pub laterOf : ℕ → List Pair
+abbrev pub took : ℕ → Bool → Taken
+took v t = record { pair = pair v 0; changed = t }
+
+abbrev pub laterOf : ℕ → List Taken
 laterOf own = later (ring 5) own (pair 4 0) (pair 0 0) ∷ later (ring 5) own (pair 0 0) (pair 4 0) ∷ []
 
 abbrev pub apart : ℕ → ℕ → Option Gap
@@ -408,7 +465,7 @@ numbersFrom v t vs = map (λ u. beforeOff X (some (stampAt v t)) (some (stampAt 
 pub record Cases : Type 0 where
   pub runs : (b : Book) → map (answers b) all ≡ map (λ (c : Case). c .lines) all
   -- 9
-  pub newest : (laterOf 0 ≡ (pair 0 0 ∷ pair 0 0 ∷ [])) × (laterOf 4 ≡ (pair 4 0 ∷ pair 4 0 ∷ []))
+  pub newest : (laterOf 0 ≡ (took 0 true ∷ took 0 false ∷ [])) × (laterOf 4 ≡ (took 4 false ∷ took 4 true ∷ []))
   -- 10: r of 0, 1, 4, 3, 2, of an e that is no reset
   pub reach : reachFrom 3 1 (3 ∷ 4 ∷ 2 ∷ 1 ∷ 0 ∷ []) ≡ (apart 0 0 ∷ apart 1 0 ∷ apart 0 1 ∷ none ∷ none ∷ [])
   pub numbers : numbersFrom 3 1 (3 ∷ 4 ∷ 2 ∷ 1 ∷ 0 ∷ []) ≡ (0 ∷ 0 ∷ 0 ∷ 16 ∷ 16 ∷ [])

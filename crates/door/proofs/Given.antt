@@ -13,6 +13,7 @@ use Rattle.tools.specs.Tests.{pick}
 use Rattle.tools.specs.Lists.{listed}
 use Rattle.rules.specs.declared.Stamp.{Stamp}
 use Rattle.rules.specs.declared.Stamped.{Stamped}
+use Rattle.rules.specs.declared.Received.{Received}
 use Rattle.rules.specs.declared.Posted.{Posted}
 use Rattle.rules.specs.declared.Posted.the-variants as Posts
 use Rattle.rules.specs.declared.Told.{Told}
@@ -20,10 +21,11 @@ use Rattle.rules.specs.declared.Compared.{Compared}
 use Rattle.rules.specs.declared.Kept.{Kept}
 use Rattle.rules.specs.declared.Kept.the-variants as Keeps
 use Rattle.rules.specs.Model.{Value, nothing, Answer, refusal, accepted}
-use Rattle.rules.specs.Replies.{rowOf, slotIn, stampedSays, postedSays, toldSays, comparedSays}
+use Rattle.rules.specs.Replies.{rowOf, slotIn, eventSays, stampedSays, receivedSays, postedSays, toldSays, comparedSays}
 use Rattle.book.specs.Stamps.{writeStamp, filled}
 use Rattle.parts.proofs.Lent.{filled-none}
-use Rattle.door.specs.Door.{one, Lent, lent, placeTo, slotTo, recordTo, short, orNoRoom, cramped, Fills, Gets, Gives, GivesByte}
+use Rattle.door.specs.Door.{one, Lent, lent, placeTo, learntTo, slotTo, recordTo, short, orNoRoom, cramped}
+use Rattle.door.specs.Door.{Fills, Gets, Gives, GivesByte}
 
 -- the number with NoRoom as one more reason
 pub room-lacks : (q : Bool) (n : ℕ) → (q && (eqb n 0 || ltb 15 n)) ≡ true → 15 ≡ cramped q (refusal n) .number
@@ -91,14 +93,27 @@ recordOf D x = writeStamp D (record { owner = x .owner; row = rowOf (x .row) })
 module _ (x : Stamped) (D : ℕ) (t u : List ℕ) where
   pub stamp-refused : (x .number ≡ 0 → ⊥)
       → Gets (stampedSays x) (recordTo D t t ∷ slotTo true u u ∷ []) (x .number)
-  unfolding stampedSays
+  unfolding eventSays
   stamp-refused ne = let e = ne-eqb (x .number) 0 ne in record { number = rw e; buffers = rw e (search lending) }
 
   pub stamp-given : x .number ≡ 0 → (w l k : List ℕ) → w ≡ recordOf D (x .stamp) → l ≡ filled t w
       → k ≡ filled u (listed one (slotIn (x .kept)))
       → Gets (stampedSays x) (recordTo D t l ∷ slotTo true u k ∷ []) 0
-  unfolding stampedSays
+  unfolding eventSays
   stamp-given e w l k h g o = let f = g ∙ ap (filled t) h in record { number = rw e; buffers = rw e (search lending) }
+
+-- a receive that is refused, and an accepted one
+module _ (x : Received) (D : ℕ) (t p u : List ℕ) where
+  pub received-refused : (x .number ≡ 0 → ⊥)
+      → Gets (receivedSays x) (recordTo D t t ∷ learntTo p p ∷ slotTo true u u ∷ []) (x .number)
+  unfolding eventSays
+  received-refused ne = let e = ne-eqb (x .number) 0 ne in record { number = rw e; buffers = rw e (search lending) }
+
+  pub received-given : x .number ≡ 0 → (w l o k : List ℕ) → w ≡ recordOf D (x .stamp) → l ≡ filled t w → o ≡ filled p (x .learnt ∷ [])
+      → k ≡ filled u (listed one (slotIn (x .kept)))
+      → Gets (receivedSays x) (recordTo D t l ∷ learntTo p o ∷ slotTo true u k ∷ []) 0
+  unfolding eventSays
+  received-given e w l o k h g y z = let f = g ∙ ap (filled t) h in record { number = rw e; buffers = rw e (search lending) }
 
 -- a send that is refused, and an accepted one
 module _ (m : Posted) (x : Stamp) (κ : Kept) (D : ℕ) (t p u : List ℕ) where
@@ -138,6 +153,6 @@ one-byte u v e = ap (λ (u : ℕ). u ∷ []) e
 
 pub ruleset cases = (told-as, compared-as, one-byte)
 
-pub ruleset stamps = (stamp-refused, stamp-given, sent-refused, sent-given, no-slot, in-slot, slot-room)
+pub ruleset stamps = (stamp-refused, stamp-given, received-refused, received-given, sent-refused, sent-given, no-slot, in-slot, slot-room)
 
 pub ruleset gave = (cases, stamps, room-lacks, room-enough, refused, byte-short, byte-given, byte-as, lending)

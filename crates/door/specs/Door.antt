@@ -5,13 +5,14 @@
 --   one n            the byte n
 --   wished n         whether a caller who gives the number n wishes to keep the stamp: 0 is no, any other yes
 --   byteIn v         the one byte of the yes or no, or relation in a value
---   placeIn v, slotByte v   the one byte of the place, of the slot in a value; none where it has none
+--   placeIn v, learntIn v, slotByte v   the one byte of the place, of the number of desks learnt of, of the slot in a value; none
+--                    where it has none
 --   whichByte w      the byte of one of two records, or of neither
 --   whichIn v        the byte of the newest of two records that a value relates; none where it relates none
 --   Lent, lent n f t t′   a buffer that the caller lends for a value: it must have n bytes, f tells those of the value, and the
 --                    whole buffer is t before the call and t′ afterwards
 --   byteTo t t′, whichTo t t′, rowTo t t′   the buffer is lent for a byte, for the newest of two records, for sixteen row bytes
---   placeTo t t′     the buffer is lent for a place
+--   placeTo t t′, learntTo t t′   the buffer is lent for a place, for the number of desks learnt of
 --   slotTo q t t′    the buffer is lent for the slot of an event: it must have a byte where the event is to be kept, q
 --   recordTo D t t′  the buffer is lent for a stamp record with the number D of desks
 --   stampTo s t t′   the buffer is lent for a stamp record with the D of the book s
@@ -67,6 +68,9 @@ byteIn v = listed (λ t. one (pick t 1 0)) (v .verdict) ++ listed (λ r. one (re
 abbrev pub placeIn : Value → List ℕ
 placeIn v = listed one (v .place)
 
+abbrev pub learntIn : Value → List ℕ
+learntIn v = listed one (v .learnt)
+
 abbrev pub slotByte : Value → List ℕ
 slotByte v = listed one (v .slot)
 
@@ -89,6 +93,9 @@ whichTo = lent 1 whichIn
 
 abbrev pub placeTo : List ℕ → List ℕ → Lent
 placeTo = lent 1 placeIn
+
+abbrev pub learntTo : List ℕ → List ℕ → Lent
+learntTo = lent 1 learntIn
 
 abbrev pub slotTo : Bool → List ℕ → List ℕ → Lent
 slotTo q = lent (pick q 1 0) slotByte

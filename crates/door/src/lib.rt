@@ -12,12 +12,14 @@ ghost use Rattle.rules.specs.Model.{refusal};
 ghost use Rattle.rules.specs.Labels.{newer};
 ghost use Rattle.book.specs.Layout.{recordSize};
 ghost use Rattle.book.specs.Stamps.{filled};
-ghost use Rattle.rules.specs.Replies.{slotIn, stampedSays, postedSays, toldSays, comparedSays};
-ghost use Rattle.door.specs.Door.{setupBy, relationByte, whichByte, one, byteTo, placeTo, slotTo, whichTo, recordTo};
+ghost use Rattle.rules.specs.Replies.{slotIn, stampedSays, receivedSays, postedSays, toldSays, comparedSays};
+ghost use Rattle.door.specs.Door.{setupBy, relationByte, whichByte, one, byteTo, placeTo, learntTo, slotTo};
+ghost use Rattle.door.specs.Door.{whichTo, recordTo};
 ghost use Rattle.door.specs.Door.{cramped, Gets, Gives, GivesByte};
 use rules::Compared;
 use rules::Kept;
 use rules::Posted;
+use rules::Received;
 use rules::Relation;
 use rules::Sent;
 use rules::Setup;
@@ -134,6 +136,33 @@ pub fn give_stamp(stamp: &mut [u8], slot: &mut [u8], desks: u8, stamped: Stamped
     let kept = stamped.kept;
     let bytes = labels::record_of(desks, own);
     parts::lend(stamp, &bytes);
+    give_slot(slot, kept);
+    rules::DONE
+}
+
+// The stamp of an accepted receive as a record, of how many desks it learnt, and its slot where it is kept. All buffers have room.
+pub fn give_received(
+    stamp: &mut [u8],
+    learnt: &mut [u8],
+    slot: &mut [u8],
+    desks: u8,
+    received: Received,
+) -> u8
+    requires { ⌜ (recordSize ≤ length (now stamp)) × (1 ≤ length (now learnt)) ⌝ }
+    requires { ⌜ length (listed one (slotIn (received .kept))) ≤ length (now slot) ⌝ }
+    ensures { λ r. ⌜ Gets (receivedSays received)
+        (recordTo desks (now (stamp .entry)) (now (stamp .exit)) ∷ learntTo (now (learnt .entry)) (now (learnt .exit))
+        ∷ slotTo true (now (slot .entry)) (now (slot .exit)) ∷ []) r ⌝ }
+{
+    if received.number != rules::DONE {
+        return received.number;
+    }
+    let own = received.stamp;
+    let kept = received.kept;
+    let label = labels::record_of(desks, own);
+    let told = [received.learnt];
+    parts::lend(stamp, &label);
+    parts::lend(learnt, &told);
     give_slot(slot, kept);
     rules::DONE
 }

@@ -5,6 +5,7 @@ use Prim.Native.Nat.{ℕ, zero, suc, _<_, _≤_}
 use mathlib.Core.Path.{_≡_, refl, sym, ap, _∙_, subst}
 use mathlib.Core.Bool.{Bool, true, false, _||_}
 use mathlib.Core.List.{List, [], _∷_}
+use mathlib.Core.Option.{Option}
 use native.Mathlib.Omega.{arith}
 use borrow.Author.Tests.{lt-ltb, le-ltb, ltb-false}
 use lib.Dec.{ltb, lit≤}
@@ -15,13 +16,12 @@ use Rattle.tools.proofs.Tests.{or-false-l, or-false-r}
 use Rattle.tools.proofs.Lists.{length-tab}
 use Rattle.rules.specs.declared.Setup.{Setup}
 use Rattle.rules.specs.declared.Stamp.{Stamp}
-use Rattle.rules.specs.declared.Stamped.{Stamped}
 use Rattle.rules.specs.declared.Kept.{Kept}
 use Rattle.rules.specs.declared.Posted.{Posted}
 use Rattle.rules.specs.declared.Posted.the-variants as Posts
-use Rattle.rules.specs.Model.{Tables, Act, show, nothing, Answer, refusal, slotFor, done, askTells}
+use Rattle.rules.specs.Model.{Tables, Act, show, Value, nothing, Answer, refusal, slotFor, done, askTells}
 use Rattle.rules.specs.Calls.{Call, start, on}
-use Rattle.rules.specs.Replies.{rowBytes, slotIn, stampedSays, postedSays, Beside, BesidePost}
+use Rattle.rules.specs.Replies.{rowBytes, slotIn, eventSays, postedSays, Beside, BesidePost}
 use Rattle.book.specs.Stamps.{filled}
 use Rattle.book.specs.Answers.{answerTo, bookAfter, partIn, partOf, beforeOf, compareOf}
 use Rattle.book.specs.Numbers.{tablesOf, numberOf}
@@ -29,7 +29,7 @@ use Rattle.book.proofs.Numbers.{doneOn, answer-number, accepted-answer, refused
 use Rattle.refusals.specs.declared.Grant.{Grant}
 use Rattle.refusals.specs.Grants.{grantOf}
 use Rattle.refusals.proofs.Grants.{grant-number}
-use Rattle.door.specs.Door.{one, Lent, placeTo, slotTo, rowTo, recordTo, stampTo, short, orNoRoom, cramped, Fills, Gets, Gives, Makes}
+use Rattle.door.specs.Door.{one, Lent, lent, slotTo, rowTo, recordTo, stampTo, short, orNoRoom, cramped, Fills, Gets, Gives, Makes}
 use Rattle.door.proofs.Given.{fills-none, lending, no-room, has-room}
 
 -- a setup of the same numbers
@@ -78,7 +78,8 @@ slot-fits : (k : Kept) (t : Tables) (q : Bool) → slotIn k ≡ slotFor t q → 
 slot-fits k t true e n l = rw e (ltb-false n 1 l)
 slot-fits k t false e n l = rw e (omega arith)
 
--- an event with the wish q, the book s and the buffers t and u for its stamp and slot; o tells whether the slot's is too short
+-- an event with the wish q, the book s and the buffers t and u for its stamp and slot, and maybe p for a byte f of its value; o tells
+-- whether the slot's is too short
 module _ (c : Act) (s : List ℕ) (q : Bool) (t u : List ℕ) (o : Bool) (eo : o ≡ ltb (length u) (pick q 1 0)) where
   -- the answer to one that is made, and its slot
   module _ (v : doneOn s c .answer .value .slot ≡ slotFor (tablesOf s) q) where
@@ -87,15 +88,11 @@ module _ (c : Act) (s : List ℕ) (q : Bool) (t u : List ℕ) (o : Bool) (eo : o
         let n = ap (λ (a : Answer). a .number) (sym e) ∙ z in
         ap (λ (a : Answer). a .value .slot) (e ∙ sym (accepted-answer s c (sym (answer-number s c) ∙ n))) ∙ v
 
-    pub stamped-fits : (x : Stamped) → stampedSays x ≡ answerTo s (on c) → Beside (x .number) (x .stamp) (x .kept) → o ≡ false
-        → length (listed one (slotIn (x .kept))) ≤ length u
-    unfolding stampedSays
-    stamped-fits x e b l = go (x .number) (x .stamp) (x .kept) b e
-      where
-        go : (m : ℕ) (y : Stamp) (k : Kept) → Beside m y k → stampedSays (record { number = m; stamp = y; kept = k }) ≡ answerTo s (on c)
-            → length (listed one (slotIn k)) ≤ length u
-        go zero y k b e = slot-fits k (tablesOf s) q (slot-said _ e refl) (length u) (sym eo ∙ l)
-        go (suc m) y k b e = rw (b .1) (omega arith)
+    pub event-fits : (m : ℕ) (y : Stamp) (n : Option ℕ) (k : Kept) → eventSays m y n k ≡ answerTo s (on c) → Beside m y k → o ≡ false
+        → length (listed one (slotIn k)) ≤ length u
+    unfolding eventSays
+    event-fits zero y n k e b l = slot-fits k (tablesOf s) q (slot-said _ e refl) (length u) (sym eo ∙ l)
+    event-fits (suc m) y n k e b l = rw (b .1) (omega arith)
 
     pub sent-fits : (p : Posted) (y : Stamp) (k : Kept) → postedSays p y k ≡ answerTo s (on c) → BesidePost p y k → o ≡ false
         → length (listed one (slotIn k)) ≤ length u
@@ -116,9 +113,9 @@ module _ (c : Act) (s : List ℕ) (q : Bool) (t u : List ℕ) (o : Bool) (eo : o
         let z = tested-two (ltb (length t) 20) true l in
         left-alone (on c) s _ r (number-only c s _ (g .number) (grant-number s c q g e) z r h (search lending)) z
 
-    pub send-short : (p : List ℕ) → ((o || ltb (length p) 1) || ltb (length t) 20) ≡ true
-        → Makes (on c) s s (stampTo s t t ∷ placeTo p p ∷ slotTo q u u ∷ []) r
-    send-short p l =
+    pub with-byte-short : (f : Value → List ℕ) → f nothing ≡ [] → (p : List ℕ) → ((o || ltb (length p) 1) || ltb (length t) 20) ≡ true
+        → Makes (on c) s s (stampTo s t t ∷ lent 1 f p p ∷ slotTo q u u ∷ []) r
+    with-byte-short f empty p l =
         let z = tested (ltb (length p) 1) (ltb (length t) 20) true l in
         left-alone (on c) s _ r (number-only c s _ (g .number) (grant-number s c q g e) z r h (search lending)) z
 
@@ -136,15 +133,15 @@ module _ (c : Act) (s : List ℕ) (q : Bool) (t u : List ℕ) (o : Bool) (eo : o
           book = rw z eb;
         }
 
-    pub send-makes : (p m : List ℕ) → ((o || ltb (length p) 1) || ltb (length t) 20) ≡ false
-        → Gets a (recordTo D t l ∷ placeTo p m ∷ slotTo true u k ∷ []) r
-        → Makes (on c) s b (stampTo s t l ∷ placeTo p m ∷ slotTo q u k ∷ []) r
+    pub with-byte-makes : (f : Value → List ℕ) (p m : List ℕ) → ((o || ltb (length p) 1) || ltb (length t) 20) ≡ false
+        → Gets a (recordTo D t l ∷ lent 1 f p m ∷ slotTo true u k ∷ []) r
+        → Makes (on c) s b (stampTo s t l ∷ lent 1 f p m ∷ slotTo q u k ∷ []) r
     unfolding Fills
-    send-makes p m y g =
+    with-byte-makes f p m y g =
         let z = tested (ltb (length p) 1) (ltb (length t) 20) false y in
         record {
-          answer = rw z (subst (λ (a : Answer). Gets a (stampTo s t l ∷ placeTo p m ∷ slotTo q u k ∷ []) r) e
-              (subst (λ (D : ℕ). Gets a (recordTo D t l ∷ placeTo p m ∷ slotTo q u k ∷ []) r) d
+          answer = rw z (subst (λ (a : Answer). Gets a (stampTo s t l ∷ lent 1 f p m ∷ slotTo q u k ∷ []) r) e
+              (subst (λ (D : ℕ). Gets a (recordTo D t l ∷ lent 1 f p m ∷ slotTo q u k ∷ []) r) d
               (record { number = g .number; buffers = g .buffers })));
           book = rw z eb;
         }

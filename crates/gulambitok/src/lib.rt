@@ -7,7 +7,8 @@ ghost use Rattle.rules.specs.Model;
 ghost use Rattle.rules.specs.Calls;
 ghost use Rattle.rules.specs.Calls.{on};
 ghost use Rattle.book.specs.Answers.{answerTo, targetAfter, beforeOf, compareOf};
-ghost use Rattle.door.specs.Door.{setupBy, wished, byteTo, placeTo, slotTo, whichTo, rowTo, stampTo, Gives, Makes};
+ghost use Rattle.door.specs.Door.{setupBy, wished, byteTo, placeTo, learntTo, slotTo, whichTo, rowTo, stampTo};
+ghost use Rattle.door.specs.Door.{Gives, Makes};
 
 // Start writes a fresh book: rows zero, no seat started, all places free.
 #[no_mangle]
@@ -61,20 +62,23 @@ pub extern "C" fn gulambitok_receive(
     place: usize,
     keep: usize,
     stamp: &mut [u8],
+    learnt: &mut [u8],
     slot: &mut [u8],
 ) -> u8
     ensures { λ r. ⌜ Makes (on (Model.receive desk place (wished keep))) (now (book .entry)) (now (book .exit))
-        (stampTo (now (book .entry)) (now (stamp .entry)) (now (stamp .exit))
+        (stampTo (now (book .entry)) (now (stamp .entry)) (now (stamp .exit)) ∷ learntTo (now (learnt .entry)) (now (learnt .exit))
         ∷ slotTo (wished keep) (now (slot .entry)) (now (slot .exit)) ∷ []) r ⌝ }
 {
     let wish = keep != 0;
-    if door::slot_short(wish, slot.len()) | (stamp.len() < parts::RECORD_BYTES) {
+    if (door::slot_short(wish, slot.len()) | (learnt.len() < 1))
+        | (stamp.len() < parts::RECORD_BYTES)
+    {
         let grant = refusals::receive_grant(&book[..], desk, place, wish);
         return door::number_by(true, grant.number);
     }
     let desks = portal::desks_in(&book[..]);
-    let stamped = portal::receive(book, desk, place, wish);
-    door::give_stamp(stamp, slot, desks, stamped)
+    let received = portal::receive(book, desk, place, wish);
+    door::give_received(stamp, learnt, slot, desks, received)
 }
 
 // Reset: the desk's own phase grows by 1 modulo P and its own clock becomes 0.

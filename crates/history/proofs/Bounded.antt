@@ -14,7 +14,7 @@ use Rattle.rules.specs.declared.Setup.{Setup}
 use Rattle.tools.specs.Tests.{pick}
 use Rattle.tools.specs.Tables.{put}
 use Rattle.rules.specs.Model.{Row, Seat, Held, Tables, Act, local, reset, send, receive, drop, discard, ask}
-use Rattle.rules.specs.Model.{done, why, fresh, grown, merged, turned, seated, freeMail, slotFor, rowIn}
+use Rattle.rules.specs.Model.{done, why, fresh, grown, taken, merged, turned, seated, freeMail, slotFor, rowIn}
 use Rattle.rules.specs.Model.{own, lags, seatLags, tick, turn}
 use Rattle.tools.specs.Tables.{Each}
 use Rattle.tools.proofs.Tables.{put-all, put-both, put-at-all, put-same, Each-map}
@@ -92,9 +92,9 @@ module _ (X : Setup) (ok : Permitted X) (b : Tables) (w : InLag X b) where
 
   merged-own : (j : ℕ) (m : Row) → (merged line b j m) j .phase ≡ phases b j
   merged-own j m =
-      ap (λ (q : Pair). q .phase) (put-same (λ k. later line (phases b k) (b .seat j .row k) (m k)) j (tick (own b j)))
+      ap (λ (q : Pair). q .phase) (put-same (λ k. taken line b j m k .pair) j (tick (own b j)))
 
-  later-near : (o B : ℕ) (x y : Pair) → Near o B (x .phase) → Near o B (later line o x y .phase)
+  later-near : (o B : ℕ) (x y : Pair) → Near o B (x .phase) → Near o B (later line o x y .pair .phase)
   later-near o B x y n = go (isLater line o y x) refl
     where
       go : (t : Bool) → isLater line o y x ≡ t → Near o B ((pick t y x) .phase)
@@ -103,7 +103,7 @@ module _ (X : Setup) (ok : Permitted X) (b : Tables) (w : InLag X b) where
 
   merged-near : (j : ℕ) → j < X .desks → (m : Row) → NearRow (phases b) (X .seatLag) (merged line b j m)
   merged-near j h m =
-      put-all (λ k (q : Pair). Near (phases b k) (X .seatLag) (q .phase)) (λ k. later line (phases b k) (b .seat j .row k) (m k)) j
+      put-all (λ k (q : Pair). Near (phases b k) (X .seatLag) (q .phase)) (λ k. taken line b j m k .pair) j
       (tick (own b j))
       (omega arith) (λ k h′. later-near (phases b k) (X .seatLag) (b .seat j .row k) (m k) (w .seats j h k))
 

@@ -9,9 +9,9 @@ use native.Mathlib.Omega.{arith}
 use native.Mathlib.Nat.{mul-le-mul-right}
 use lib.Dec.{ltb, eqb}
 use borrow.Author.Tests.{eqb-true, eq-eqb, ltb-true, ltb-false, lt-ltb}
-use Rattle.tools.specs.Tests.{pick, lowest}
+use Rattle.tools.specs.Tests.{pick, lowest, counted}
 use Rattle.tools.specs.Tables.{Each}
-use Rattle.tools.proofs.Tests.{and-true-l, and-true-r, lt-or-le, Lowest, lowest-is}
+use Rattle.tools.proofs.Tests.{and-true-l, and-true-r, lt-or-le, Lowest, lowest-is, count-none}
 use Rattle.ring.specs.Phases.{Pair}
 use Rattle.rules.specs.declared.Setup.{Setup}
 use Rattle.rules.specs.Model.{reachBack}
@@ -23,7 +23,7 @@ use Rattle.history.specs.Contract.{resetAt, resetBefore, found, resetAft
 use Rattle.history.proofs.Keys.{key}
 use Rattle.history.proofs.Causal.{Origin, Causal, leads-lt}
 use Rattle.history.proofs.Runs.{Faithful, allowed}
-use Rattle.history.proofs.Resets.{counted, resets, resets-next, reset-more, reset-same, resets-grow, resets-flat, Counts}
+use Rattle.history.proofs.Resets.{resets, resets-next, reset-more, reset-same, resets-grow, resets-flat, Counts}
 
 -- f goes on from number to number, below n and such as Q holds of; N counts those to come, and falls by one each time
 module _ (f : ℕ → Option ℕ) (N : ℕ → ℕ) (n : ℕ) (Q : ℕ → Type 0) where
@@ -64,7 +64,7 @@ module _ (h : Log) (j : ℕ) where
 
   reset-back : (e : ℕ) → e ≤ h .count → Back e (resetBefore h j e)
   unfolding resetBefore resets
-  reset-back zero l = refl
+  reset-back zero l = count-none (resetAt h j)
   reset-back (suc e) l = go (resetAt h j e) refl (resetBefore h j e) (reset-back e (omega arith))
     where
       go : (t : Bool) → resetAt h j e ≡ t → (o : Option ℕ) → Back e o → Back (suc e) (pick t (some e) o)

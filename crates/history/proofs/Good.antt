@@ -16,7 +16,7 @@ use Rattle.tools.specs.Tests.{pick}
 use Rattle.tools.specs.Reasons.{ifDone}
 use Rattle.tools.specs.Tables.{put, Each}
 use Rattle.rules.specs.Model.{Row, Seat, Held, Tables, Act, local, reset, send, receive, drop, discard, ask}
-use Rattle.rules.specs.Model.{step, done, why, fresh, zeros, grown, merged, turned, seated, freeMail, slotFor, rowIn, used}
+use Rattle.rules.specs.Model.{step, done, why, fresh, zeros, grown, taken, merged, turned, seated, freeMail, slotFor, rowIn, used}
 use Rattle.rules.specs.Model.{own, tick, turn, settle}
 use Rattle.history.specs.History.{Kind, cause, isReset, Local, Send, Reset, Receive, Log, History, desk-link, one, more, logged, noted, none-yet}
 use Rattle.history.specs.History.{adds}
@@ -26,7 +26,7 @@ use Rattle.rules.specs.Model.{phases}
 use Rattle.history.specs.Lags.{Past}
 use Rattle.history.proofs.Past.{left}
 use Rattle.history.proofs.Bounded.{Bounded, bounded-done, fresh-bounded}
-use Rattle.rules.proofs.Accepted.{no-local, no-send, no-receive}
+use Rattle.rules.proofs.Accepted.{no-local, no-send, no-receive, no-reset}
 use Rattle.history.specs.Vector.{Upto}
 use Rattle.history.proofs.Causal.{Origin, seen, Causal, Fits, old-desk, old-row, causal-next, below}
 
@@ -43,6 +43,7 @@ SeatOf h j false ρ = (ρ ≡ zeros) × ((e : ℕ) → e < h .count → h .desk 
 pub record Good (X : Setup) (b : Tables) (h : History) : Type 0 where
   pub bounded : Bounded X b
   pub causal : Causal X (h .log)
+  pub there : (e : ℕ) → e < h .log .count → h .log .desk e < X .desks
   pub known : (f : ℕ) → f < h .log .count → (k : ℕ) → key X (h .log .row f k) ≤ key X (own b k)
   pub seats : (j : ℕ) → SeatOf (h .log) j (b .seat j .started) (b .seat j .row)
   pub mail : (p : ℕ) → Each (Behind (h .log) (h .mailed p)) (b .mail p)
@@ -81,7 +82,7 @@ module _ (X : Setup) (ok : Permitted X) (b : Tables) (h : History) (g : Good X b
           let y = g .causal .positive e a in
           absurd (omega arith)
 
-  seat-tells : (j e x : ℕ) → e < h .log .count → x < h .log .count → Upto (h .log) e x → h .log .desk x ≡ j
+  pub seat-tells : (j e x : ℕ) → e < h .log .count → x < h .log .count → Upto (h .log) e x → h .log .desk x ≡ j
       → seen X (h .log) e e ≤ key X (b .seat j .row (h .log .desk e))
   seat-tells j e x a l u q = go (b .seat j .started) (g .seats j)
     where
@@ -132,8 +133,8 @@ module _ (X : Setup) (ok : Permitted X) (b : Tables) (h : History) (g : Good X b
 
   -- the later of two pairs: it is one of them, and at least both
   later-is : (o : ℕ) (x y : Pair) → x .phase ≤ o → y .phase ≤ o → x .clock < X .clocks → y .clock < X .clocks
-      → (key X x ≤ key X (later line o x y)) × (key X y ≤ key X (later line o x y))
-      × ((later line o x y ≡ x) ⊎ (later line o x y ≡ y))
+      → (key X x ≤ key X (later line o x y .pair)) × (key X y ≤ key X (later line o x y .pair))
+      × ((later line o x y .pair ≡ x) ⊎ (later line o x y .pair ≡ y))
   later-is o x y a c d e = go (isLater line o y x) (later-key X o x y a c d e)
     where
       go : (t : Bool) → t ≡ ltb (key X x) (key X y)
@@ -145,17 +146,17 @@ module _ (X : Setup) (ok : Permitted X) (b : Tables) (h : History) (g : Good X b
     m-clock : (k : ℕ) → m k .clock < X .clocks
     m-clock k = rw is at (g .causal .clocks x lx k)
 
-    at-k : (k : ℕ) → (key X (b .seat j .row k) ≤ key X (later line (phases b k) (b .seat j .row k) (m k)))
-        × (key X (m k) ≤ key X (later line (phases b k) (b .seat j .row k) (m k)))
-        × ((later line (phases b k) (b .seat j .row k) (m k) ≡ b .seat j .row k) ⊎ (later line (phases b k) (b .seat j .row k) (m k) ≡ m k))
+    at-k : (k : ℕ) → (key X (b .seat j .row k) ≤ key X (taken line b j m k .pair))
+        × (key X (m k) ≤ key X (taken line b j m k .pair))
+        × ((taken line b j m k .pair ≡ b .seat j .row k) ⊎ (taken line b j m k .pair ≡ m k))
     at-k k =
         later-is (phases b k) (b .seat j .row k) (m k) (g .bounded .past .seats j k) (past k) (seat-clock j k) (m-clock k)
 
-    r-other : (k : ℕ) → (k ≡ j → ⊥) → merged line b j m k ≡ later line (phases b k) (b .seat j .row k) (m k)
-    r-other k ne = put-other (λ k. later line (phases b k) (b .seat j .row k) (m k)) j (tick (own b j)) k ne
+    r-other : (k : ℕ) → (k ≡ j → ⊥) → merged line b j m k ≡ taken line b j m k .pair
+    r-other k ne = put-other (λ k. taken line b j m k .pair) j (tick (own b j)) k ne
 
     r-own : merged line b j m j ≡ tick (own b j)
-    r-own = put-same (λ k. later line (phases b k) (b .seat j .row k) (m k)) j (tick (own b j))
+    r-own = put-same (λ k. taken line b j m k .pair) j (tick (own b j))
 
     mail-known : (k : ℕ) → key X (m k) ≤ key X (own b k)
     mail-known k = rw is at (g .known x lx k)
@@ -164,16 +165,16 @@ module _ (X : Setup) (ok : Permitted X) (b : Tables) (h : History) (g : Good X b
     merged-known k ne = rw (r-other k ne) (go (at-k k .2))
       where
         go
-            : ((later line (phases b k) (b .seat j .row k) (m k) ≡ b .seat j .row k)
-            ⊎ (later line (phases b k) (b .seat j .row k) (m k) ≡ m k))
-            → key X (later line (phases b k) (b .seat j .row k) (m k)) ≤ key X (own b k)
+            : ((taken line b j m k .pair ≡ b .seat j .row k)
+            ⊎ (taken line b j m k .pair ≡ m k))
+            → key X (taken line b j m k .pair) ≤ key X (own b k)
         go (inl z) = rw z (seat-known j k)
         go (inr z) = rw z (mail-known k)
 
-    merging : own b j .clock + 1 < X .clocks → Fits X (h .log) j (Receive x) (merged line b j m)
+    pub merging : own b j .clock + 1 < X .clocks → Fits X (h .log) j (Receive x) (merged line b j m)
     merging lc =
         record {
-          small = put-all (λ k (p : Pair). p .clock < X .clocks) (λ k. later line (phases b k) (b .seat j .row k) (m k)) j (tick (own b j))
+          small = put-all (λ k (p : Pair). p .clock < X .clocks) (λ k. taken line b j m k .pair) j (tick (own b j))
               (omega arith) (λ k ne. small k (at-k k .2));
           kind = ap (λ (p : Pair). eqb (p .clock) 0) r-own ∙ ticks j;
           sent = lx;
@@ -185,21 +186,21 @@ module _ (X : Setup) (ok : Permitted X) (b : Tables) (h : History) (g : Good X b
         }
       where
         small : (k : ℕ)
-            → ((later line (phases b k) (b .seat j .row k) (m k) ≡ b .seat j .row k)
-            ⊎ (later line (phases b k) (b .seat j .row k) (m k) ≡ m k))
-            → later line (phases b k) (b .seat j .row k) (m k) .clock < X .clocks
+            → ((taken line b j m k .pair ≡ b .seat j .row k)
+            ⊎ (taken line b j m k .pair ≡ m k))
+            → taken line b j m k .pair .clock < X .clocks
         small k (inl z) = rw z (seat-clock j k)
         small k (inr z) = rw z (m-clock k)
 
         from : (k : ℕ)
-            → ((later line (phases b k) (b .seat j .row k) (m k) ≡ b .seat j .row k)
-            ⊎ (later line (phases b k) (b .seat j .row k) (m k) ≡ m k))
-            → Origin (h .log) k (later line (phases b k) (b .seat j .row k) (m k))
+            → ((taken line b j m k .pair ≡ b .seat j .row k)
+            ⊎ (taken line b j m k .pair ≡ m k))
+            → Origin (h .log) k (taken line b j m k .pair)
         from k (inl z) = rw z (seat-from j k)
         from k (inr z) = rw z (subst (λ (ρ : Row). Origin (h .log) k (ρ k)) is (g .causal .origin x lx k))
 
         tells : (e y : ℕ) → e < h .log .count → y < h .log .count → Upto (h .log) e y → (h .log .desk y ≡ j) ⊎ (some x ≡ some y)
-            → seen X (h .log) e e ≤ key X (later line (phases b (h .log .desk e)) (b .seat j .row (h .log .desk e)) (m (h .log .desk e)))
+            → seen X (h .log) e e ≤ key X (taken line b j m (h .log .desk e) .pair)
         tells e y a c u (inl z) = let p = seat-tells j e y a c u z in let q = at-k (h .log .desk e) .0 in omega arith
         tells e y a c u (inr z) =
             let p : seen X (h .log) e e ≤ seen X (h .log) e x = g .causal .sound e x a lx
@@ -209,10 +210,10 @@ module _ (X : Setup) (ok : Permitted X) (b : Tables) (h : History) (g : Good X b
             omega arith
 
         heard : (e : ℕ) → e < h .log .count
-            → ((later line (phases b (h .log .desk e)) (b .seat j .row (h .log .desk e)) (m (h .log .desk e))
+            → ((taken line b j m (h .log .desk e) .pair
             ≡ b .seat j .row (h .log .desk e))
-            ⊎ (later line (phases b (h .log .desk e)) (b .seat j .row (h .log .desk e)) (m (h .log .desk e)) ≡ m (h .log .desk e)))
-            → seen X (h .log) e e ≤ key X (later line (phases b (h .log .desk e)) (b .seat j .row (h .log .desk e)) (m (h .log .desk e)))
+            ⊎ (taken line b j m (h .log .desk e) .pair ≡ m (h .log .desk e)))
+            → seen X (h .log) e e ≤ key X (taken line b j m (h .log .desk e) .pair)
             → (v : ℕ) × (v < h .log .count) × Upto (h .log) e v × ((h .log .desk v ≡ j) ⊎ (some x ≡ some v))
         heard e a (inl z) k = let s = seat-heard j e a (rw z at k) in (s .0, s .1, s .2, inl (s .3))
         heard e a (inr z) k = (x, lx, g .causal .complete e x a lx (rw is (rw z at k)), inr refl)
@@ -249,14 +250,17 @@ module _ (X : Setup) (ok : Permitted X) (b : Tables) (h : History) (g : Good X b
           (λ q. ne (sym q ∙ put-same (h .log .desk) (h .log .count) j)),
     )
 
-    good-event : (o : Option ℕ) (mail : ℕ → Option Held) (mailed : ℕ → ℕ)
+    good-event : j < X .desks → (o : Option ℕ) (mail : ℕ → Option Held) (mailed : ℕ → ℕ)
         → Bounded X (left b j r o mail)
         → ((p : ℕ) → Each (Behind (logged (h .log) j w r) (mailed p)) (mail p))
         → Good X (left b j r o mail) (noted h j w r o mailed)
-    good-event o mail mailed bd posts =
+    good-event lj o mail mailed bd posts =
         record {
           bounded = bd;
           causal = causal-next X (h .log) (g .causal) j w r fit;
+          there = λ e l. below (λ e. (logged (h .log) j w r) .desk e < X .desks) (h .log .count) e l
+              (λ l. rw (old-desk X (h .log) (g .causal) j w r fit e l) (g .there e l))
+              (rw (put-same (h .log .desk) (h .log .count) j) lj);
           known =
               λ f l. below (λ f. (k : ℕ) → key X ((logged (h .log) j w r) .row f k) ≤ key X ((seated b j r k) .row k)) (h .log .count) f l
               (λ l k. rw (old-row X (h .log) (g .causal) j w r fit f l)
@@ -274,7 +278,7 @@ module _ (X : Setup) (ok : Permitted X) (b : Tables) (h : History) (g : Good X b
               (Each-all (λ s. behind-itself 0) o) (λ s. behind-up (h .kept s) (b .shelf s) (g .shelf s));
         }
 
-  mail-of : (p : ℕ) → used (b .mail p) ≡ true → (h .mailed p < h .log .count) × (h .log .row (h .mailed p) ≡ rowIn (b .mail p))
+  pub mail-of : (p : ℕ) → used (b .mail p) ≡ true → (h .mailed p < h .log .count) × (h .log .row (h .mailed p) ≡ rowIn (b .mail p))
   mail-of p u = go (b .mail p) (g .mail p) u
     where
       go : (o : Option Held) → Each (Behind (h .log) (h .mailed p)) o → used o ≡ true
@@ -287,12 +291,12 @@ module _ (X : Setup) (ok : Permitted X) (b : Tables) (h : History) (g : Good X b
   good-done (local j q) e bd =
       let n = no-local line X b j q e in
       let fit = plain Local refl j (tick (own b j)) (ticks j) (tick-key X (own b j)) (n .1) in
-      good-event j Local (grown b j) fit (plain-known j (tick (own b j))) (slotFor b q) (b .mail) (h .mailed) bd
+      good-event j Local (grown b j) fit (plain-known j (tick (own b j))) (n .0) (slotFor b q) (b .mail) (h .mailed) bd
       (λ p. behind-up j Local (grown b j) fit (plain-known j (tick (own b j))) (h .mailed p) (b .mail p) (g .mail p))
   good-done (send j k q) e bd =
       let n = no-send line X b j k q e in
       let fit = plain Send refl j (tick (own b j)) (ticks j) (tick-key X (own b j)) (n .1) in
-      good-event j Send (grown b j) fit (plain-known j (tick (own b j))) (slotFor b q) _ _ bd
+      good-event j Send (grown b j) fit (plain-known j (tick (own b j))) (n .0) (slotFor b q) _ _ bd
       (put-both (λ p (o : Option Held) x. Each (Behind (logged (h .log) j Send (grown b j)) x) o) (b .mail) (h .mailed) (freeMail b)
       (some record { by = j; to = k; row = grown b j }) (h .log .count)
       (behind-itself j Send (grown b j) fit (plain-known j (tick (own b j))) k)
@@ -303,19 +307,22 @@ module _ (X : Setup) (ok : Permitted X) (b : Tables) (h : History) (g : Good X b
       let past = g .bounded .past .mail p in
       let fit = merging j (h .mailed p) (rowIn (b .mail p)) (m .0) (m .1) past (n .2) in
       let less = merged-known j (h .mailed p) (rowIn (b .mail p)) (m .0) (m .1) past in
-      good-event j (Receive (h .mailed p)) (merged line b j (rowIn (b .mail p))) fit less (slotFor b q) (put (b .mail) p none) (h .mailed) bd
+      good-event j (Receive (h .mailed p)) (merged line b j (rowIn (b .mail p))) fit less (n .0) (slotFor b q) (put (b .mail) p none)
+      (h .mailed) bd
       (put-all (λ t (o : Option Held).
       Each (Behind (logged (h .log) j (Receive (h .mailed p)) (merged line b j (rowIn (b .mail p)))) (h .mailed t)) o) (b .mail) p none tt
       (λ t ne. behind-up j (Receive (h .mailed p)) (merged line b j (rowIn (b .mail p))) fit less (h .mailed t) (b .mail t) (g .mail t)))
   good-done (reset j q) e bd =
       let l = ok .clocks in
+      let n = no-reset line X b j q e in
       let fit = plain Reset refl j (turn line (own b j)) (eq-eqb 0 0 refl) (turn-key X (own b j) (seat-clock j j)) (omega arith) in
-      good-event j Reset (turned line b j) fit (plain-known j (turn line (own b j))) (slotFor b q) (b .mail) (h .mailed) bd
+      good-event j Reset (turned line b j) fit (plain-known j (turn line (own b j))) (n .0) (slotFor b q) (b .mail) (h .mailed) bd
       (λ p. behind-up j Reset (turned line b j) fit (plain-known j (turn line (own b j))) (h .mailed p) (b .mail p) (g .mail p))
   good-done (drop s) e bd =
       record {
         bounded = bd;
         causal = g .causal;
+        there = g .there;
         known = g .known;
         seats = g .seats;
         mail = g .mail;
@@ -325,6 +332,7 @@ module _ (X : Setup) (ok : Permitted X) (b : Tables) (h : History) (g : Good X b
       record {
         bounded = bd;
         causal = g .causal;
+        there = g .there;
         known = g .known;
         seats = g .seats;
         shelf = g .shelf;
@@ -354,6 +362,7 @@ good-begin X =
         complete = λ e f l. absurd (omega arith);
         origin = λ f l. absurd (omega arith);
       };
+      there = λ e l. absurd (omega arith);
       known = λ f l. absurd (omega arith);
       seats = λ j. (refl, λ e l. absurd (omega arith));
       mail = λ p. tt;

@@ -49,6 +49,7 @@ same-result r =
         value = record {
           place = v .place;
           stamp = same-stamp (v .stamp) i;
+          learnt = v .learnt;
           slot = v .slot;
           verdict = v .verdict;
           relation = v .relation;

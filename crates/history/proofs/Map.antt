@@ -6,17 +6,17 @@ use mathlib.Core.Bool.{Bool, true, not, _&&_}
 use mathlib.Core.Option.{Option, none, some}
 use Prim.Native.Nat.{ℕ, zero, suc, _*_, _<_}
 use lib.Dec.{eqb}
-use Rattle.ring.specs.Phases.{Phases, Pair, isLater, later}
+use Rattle.ring.specs.Phases.{Phases, Pair, isLater}
 use Rattle.rules.specs.declared.Setup.{Setup}
 use Rattle.tools.specs.Tests.{pick}
 use Rattle.tools.specs.Tables.{put, putAt}
 use Rattle.rules.specs.Model.{Row, Seat, Held, Tables, Question, askBefore, askCompare, askShow, askWrite, Act, local, reset, send, receive, drop, discard, ask}
 use Rattle.rules.specs.Model.{stamp, made, shows, accepted, step, done, askReasons, reasons, askTells, why, filing, telling}
-use Rattle.rules.specs.Model.{grown, merged, turned, event, freeMail, slotFor, rowIn, byIn, toIn, used, own, lags, tick, turn}
+use Rattle.rules.specs.Model.{grown, taken, merged, learns, learnt, turned, event, freeMail, slotFor, rowIn, byIn, toIn, used, own, lags, tick, turn}
 use Rattle.rules.specs.Model.{settle, gapHeld, near}
 use Rattle.history.specs.Round.{mapPair, mapRow, mapSeat, mapHeld, mapTables, mapValue, mapResult}
 use Rattle.tools.specs.Tables.{Each}
-use Rattle.tools.proofs.Tests.{pick-ap, any-cong}
+use Rattle.tools.proofs.Tests.{pick-ap, any-cong, count-cong}
 use Rattle.tools.proofs.Tables.{put-both}
 use Rattle.rules.specs.Model.{phases}
 use Rattle.rules.proofs.Accepted.{no-receive, no-ask}
@@ -108,12 +108,12 @@ module _ (Z Y : Phases) (φ : ℕ → ℕ → ℕ) (X : Setup) (b : Tables) (w :
   slot-for : (q : Bool) → slotFor (mapTables φ b) q ≡ slotFor b q
   slot-for q = simp used-map
 
-  event-map : (j : ℕ) (r r′ : Row) (q : Bool) (p p′ : Option ℕ) (m m′ : ℕ → Option Held)
-      → r ≡ mapRow φ r′ → p ≡ p′ → m ≡ (λ p. mapHeld φ (m′ p))
-      → event (mapTables φ b) j r q p m ≡ mapResult φ (event b j r′ q p′ m′)
-  event-map j r r′ q p p′ m m′ er ep em =
+  event-map : (j : ℕ) (r r′ : Row) (q : Bool) (p p′ l l′ : Option ℕ) (m m′ : ℕ → Option Held)
+      → r ≡ mapRow φ r′ → p ≡ p′ → l ≡ l′ → m ≡ (λ p. mapHeld φ (m′ p))
+      → event (mapTables φ b) j r q p l m ≡ mapResult φ (event b j r′ q p′ l′ m′)
+  event-map j r r′ q p p′ l l′ m m′ er ep el em =
       λ i. record {
-        answer = accepted (made (ep i) j (er i) (slot-for q i));
+        answer = accepted (made (ep i) j (er i) (el i) (slot-for q i));
         tables = record { seat = seats i; mail = em i; shelf = shelf i };
       }
     where
@@ -150,10 +150,13 @@ module _ (Z Y : Phases) (φ : ℕ → ℕ → ℕ) (X : Setup) (b : Tables) (w :
   merged-map : (j : ℕ) → j < X .desks → (m : Row) → ((k : ℕ) → Keeps Z Y φ b k (m k .phase))
       → merged Z (mapTables φ b) j (mapRow φ m) ≡ mapRow φ (merged Y b j m)
   merged-map j h m n =
-      put-row (λ k. later Z (φ k (phases b k)) (mapPair (φ k) (b .seat j .row k)) (mapPair (φ k) (m k)))
-      (λ k. later Y (phases b k) (b .seat j .row k) (m k)) j _ (tick (own b j)) refl
+      put-row (λ k. taken Z (mapTables φ b) j (mapRow φ m) k .pair) (λ k. taken Y b j m k .pair) j _ (tick (own b j)) refl
       (λ k. rw (later-map k (b .seat j .row k) (m k) (w .seats j k h) (n k))
       (sym (pick-ap (mapPair (φ k)) (isLater Y (phases b k) (m k) (b .seat j .row k)) (m k) (b .seat j .row k))))
+
+  learns-map : (j : ℕ) → j < X .desks → (m : Row) → ((k : ℕ) → Keeps Z Y φ b k (m k .phase)) → (k : ℕ)
+      → learns Z (mapTables φ b) j (mapRow φ m) k ≡ learns Y b j m k
+  learns-map j h m n k = ap (λ t. not (eqb k j) && t) (later-map k (b .seat j .row k) (m k) (w .seats j k h) (n k))
 
   mail-keeps : (p : ℕ) → used (b .mail p) ≡ true → (k : ℕ) → Keeps Z Y φ b k (rowIn (b .mail p) k .phase)
   mail-keeps p u = go (b .mail p) (w .mail p) u
@@ -162,6 +165,14 @@ module _ (Z Y : Phases) (φ : ℕ → ℕ → ℕ) (X : Setup) (b : Tables) (w :
           → (k : ℕ) → Keeps Z Y φ b k (rowIn o k .phase)
       go none n u = absurd (mathlib.Core.Bool.false≢true u)
       go (some m) n u = n
+
+  -- of which desks an accepted receive learns
+  pub receive-map : (j p : ℕ) (q : Bool) → why Y X b (receive j p q) ≡ 0 → (k : ℕ)
+      → learns Z (mapTables φ b) j (rowIn (mapHeld φ (b .mail p))) k ≡ learns Y b j (rowIn (b .mail p)) k
+  receive-map j p q e k =
+      let n = no-receive Y X b j p q e in
+      ap (λ (r : Row). learns Z (mapTables φ b) j r k) (row-map φ (b .mail p) (n .1))
+      ∙ learns-map j (n .0) (rowIn (b .mail p)) (mail-keeps p (n .1)) k
 
   free-mail : freeMail (mapTables φ b) ≡ freeMail b
   free-mail = simp used-map
@@ -176,18 +187,22 @@ module _ (Z Y : Phases) (φ : ℕ → ℕ → ℕ) (X : Setup) (b : Tables) (w :
 
   done-map : (c : Act) → why Y X b c ≡ 0 → done Z X (mapTables φ b) c ≡ mapResult φ (done Y X b c)
   unfolding done
-  done-map (local j q) e = event-map j _ (grown b j) q _ none _ (b .mail) (grown-map j) refl refl
+  done-map (local j q) e = event-map j _ (grown b j) q _ none _ none _ (b .mail) (grown-map j) refl refl refl
   done-map (send j k q) e =
-      event-map j _ (grown b j) q _ (some (freeMail b)) _
-      (put (b .mail) (freeMail b) (some record { by = j; to = k; row = grown b j })) (grown-map j) (ap some free-mail)
+      event-map j _ (grown b j) q _ (some (freeMail b)) _ none _
+      (put (b .mail) (freeMail b) (some record { by = j; to = k; row = grown b j })) (grown-map j) (ap some free-mail) refl
       ((λ i. put (λ p. mapHeld φ (b .mail p)) (free-mail i) (some record { by = j; to = k; row = grown-map j i }))
       ∙ put-at-held (b .mail) (some (freeMail b)) (some record { by = j; to = k; row = grown b j }))
   done-map (receive j p q) e =
       let n = no-receive Y X b j p q e in
-      event-map j _ (merged Y b j (rowIn (b .mail p))) q _ none _ (put (b .mail) p none)
-      (ap (merged Z (mapTables φ b) j) (row-map φ (b .mail p) (n .1))
-      ∙ merged-map j (n .0) (rowIn (b .mail p)) (mail-keeps p (n .1))) refl (put-at-held (b .mail) (some p) none)
-  done-map (reset j q) e = event-map j _ (turned Y b j) q _ none _ (b .mail) (turned-map j) refl refl
+      let w = rowIn (b .mail p) in
+      let r = row-map φ (b .mail p) (n .1) in
+      event-map j _ (merged Y b j w) q _ none _ (some (learnt Y X b j w)) _ (put (b .mail) p none)
+      (ap (merged Z (mapTables φ b) j) r ∙ merged-map j (n .0) w (mail-keeps p (n .1))) refl
+      (ap some (count-cong (X .desks) (learns Z (mapTables φ b) j (rowIn (mapHeld φ (b .mail p)))) (learns Y b j w)
+      (λ k l. receive-map j p q e k)))
+      (put-at-held (b .mail) (some p) none)
+  done-map (reset j q) e = event-map j _ (turned Y b j) q _ none _ none _ (b .mail) (turned-map j) refl refl refl
   done-map (drop s) e = λ i. filing (mapTables φ b) ((mapTables φ b) .mail) (put-at-held (b .shelf) (some s) none i)
   done-map (discard p) e = λ i. filing (mapTables φ b) (put-at-held (b .mail) (some p) none i) ((mapTables φ b) .shelf)
   done-map (ask q) e = ap (telling (mapTables φ b)) (tells-map q e)

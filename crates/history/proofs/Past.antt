@@ -12,7 +12,7 @@ use Rattle.tools.proofs.Tables.{put-all, put-at-all, put-same, put-other, Each-
 use Rattle.ring.specs.Phases.{Phases, Pair, isLater, later}
 use Rattle.rules.specs.declared.Setup.{Setup}
 use Rattle.rules.specs.Model.{Row, Seat, Held, Tables, Act, local, reset, send, receive, drop, discard, ask}
-use Rattle.rules.specs.Model.{why, done, step, settle, fresh, seated, freeMail, slotFor, rowIn, own, phases, tick, turn, grown}
+use Rattle.rules.specs.Model.{why, done, step, settle, fresh, seated, freeMail, slotFor, rowIn, own, phases, tick, turn, grown, taken}
 use Rattle.rules.specs.Model.{nothing, accepted}
 use Rattle.rules.specs.Calls.{Book, Call, start, on, freshBook, settled, reasonsOf, call}
 use Rattle.history.specs.Lags.{Past, NoneAhead}
@@ -23,7 +23,7 @@ pub fresh-past : NoneAhead fresh
 fresh-past = record { seats = λ j k. omega arith; mail = λ p k. omega arith; shelf = λ s k. omega arith }
 
 -- the later of two pairs is one of them
-later-past : (Z : Phases) (o : ℕ) (x y : Pair) → x .phase ≤ o → y .phase ≤ o → later Z o x y .phase ≤ o
+later-past : (Z : Phases) (o : ℕ) (x y : Pair) → x .phase ≤ o → y .phase ≤ o → later Z o x y .pair .phase ≤ o
 later-past Z o x y a c = go (isLater Z o y x)
   where
     go : (t : Bool) → pick t y x .phase ≤ o
@@ -86,7 +86,7 @@ module _ (Z : Phases) (grows : (v : ℕ) → v ≤ Z .next v) (b : Tables) (w : 
       (row-past b w j (b .seat j .row) mine low (omega arith) (slotFor b q) mail)
       (λ p ne. stays b w j (b .seat j .row) mine low (omega arith) (slotFor b q) mail (rowIn (b .mail p)) (w .mail p)))
   done-past X (receive j p q) =
-      quiet-past b w j (λ k. later Z (phases b k) (b .seat j .row k) (rowIn (b .mail p) k)) (tick (own b j))
+      quiet-past b w j (λ k. taken Z b j (rowIn (b .mail p)) k .pair) (tick (own b j))
       (λ k. later-past Z (phases b k) (b .seat j .row k) (rowIn (b .mail p) k) (w .seats j k) (w .mail p k)) (omega arith)
       (slotFor b q) (put (b .mail) p none) (put-past b (b .mail) p none (λ k. omega arith) (w .mail))
   done-past X (reset j q) =

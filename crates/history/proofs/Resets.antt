@@ -9,16 +9,16 @@ use Prim.Native.Nat.{ℕ, zero, suc, _+_, _≤_, _<_}
 use native.Mathlib.Omega.{arith}
 use lib.Dec.{eqb}
 use borrow.Author.Tests.{eq-eqb, ne-eqb}
-use Rattle.tools.specs.Tests.{pick}
+use Rattle.tools.specs.Tests.{counted, count}
 use Rattle.tools.specs.Tables.{put}
 use Rattle.tools.specs.Reasons.{ifDone}
-use Rattle.tools.proofs.Tests.{lt-or-le}
+use Rattle.tools.proofs.Tests.{lt-or-le, count-none, count-more, count-cong}
 use Rattle.tools.proofs.Tables.{put-all, put-same, put-other}
-use Rattle.ring.specs.Phases.{line, Pair, later}
+use Rattle.ring.specs.Phases.{line, Pair}
 use Rattle.rules.specs.declared.Setup.{Setup}
 use Rattle.rules.specs.Setups.{permits}
 use Rattle.rules.specs.Model.{Row, Seat, Held, Tables, Act, local, reset, send, receive, drop, discard, ask}
-use Rattle.rules.specs.Model.{step, done, why, grown, merged, turned, seated, rowIn, own, phases, tick, turn, settle}
+use Rattle.rules.specs.Model.{step, done, why, grown, taken, merged, turned, seated, rowIn, own, phases, tick, turn, settle}
 use Rattle.rules.specs.Calls.{Call, start, on, lineOf, call}
 use Rattle.rules.proofs.Steps.{step-number}
 use Rattle.history.specs.History.{Kind, isReset, Local, Send, Reset, Receive, Log, History, logged, none-yet, adds, State, begin, next, after}
@@ -26,18 +26,13 @@ use Rattle.history.specs.Contract.{resetAt}
 use Rattle.history.proofs.Causal.{below}
 use Rattle.history.proofs.Runs.{startTurn}
 
--- one more where t holds
-abbrev pub counted : Bool → ℕ → ℕ
-counted t n = pick t (suc n) n
-
 -- the resets of desk j before the event e
 unfoldable pub resets : Log → ℕ → ℕ → ℕ
-resets h j zero = 0
-resets h j (suc e) = counted (resetAt h j e) (resets h j e)
+resets h j e = count e (resetAt h j)
 
 pub resets-next : (h : Log) (j e : ℕ) → resets h j (suc e) ≡ counted (resetAt h j e) (resets h j e)
 unfolding resets
-resets-next h j e = refl
+resets-next h j e = count-more (resetAt h j) e
 
 -- from event to event they grow by one at a reset, and else stay
 module _ (h : Log) (j : ℕ) where
@@ -84,8 +79,7 @@ module _ (b : Tables) (h : Log) (c : Counted b h) (j : ℕ) (w : Kind) (r : Row)
 
   resets-old : (k n : ℕ) → n ≤ h .count → resets h′ k n ≡ resets h k n
   unfolding resets
-  resets-old k zero l = refl
-  resets-old k (suc n) l = λ i. counted (reset-old k n (omega arith) i) (resets-old k n (omega arith) i)
+  resets-old k n l = count-cong n (resetAt h′ k) (resetAt h k) (λ e m. reset-old k e (omega arith))
 
   resets-all : (k : ℕ) → resets h′ k (suc (h .count)) ≡ counted (eqb j k && isReset w) (resets h k (h .count))
   resets-all k = resets-next h′ k (h .count) ∙ (λ i. counted (reset-last k i) (resets-old k (h .count) (omega arith) i))
@@ -127,7 +121,7 @@ module _ (X : Setup) (b : Tables) (h : History) (c : Counted b (h .log)) where
   counted-done (send j k q) = counted-event b (h .log) c j Send (grown b j) (own-is (b .seat j .row) j (tick (own b j))) _ _
   counted-done (receive j p q) =
       counted-event b (h .log) c j (Receive (h .mailed p)) (merged line b j (rowIn (b .mail p)))
-      (own-is (λ k. later line (own b k .phase) (b .seat j .row k) (rowIn (b .mail p) k)) j (tick (own b j))) _ _
+      (own-is (λ k. taken line b j (rowIn (b .mail p)) k .pair) j (tick (own b j))) _ _
   counted-done (reset j q) =
       counted-event b (h .log) c j Reset (turned line b j)
       (own-is (b .seat j .row) j (turn line (own b j)) ∙ (let up : phases b j + 1 ≡ suc (phases b j) = omega arith in up)) _ _
@@ -149,7 +143,7 @@ Counts s = Counted (s .book .tables) (s .history .log)
 
 counts-begin : (X : Setup) → Counts (begin X)
 unfolding resets
-counts-begin X = record { own = λ k. refl; phase = λ e l. absurd (omega arith) }
+counts-begin X = record { own = λ k. sym (count-none (resetAt (none-yet .log) k)); phase = λ e l. absurd (omega arith) }
 
 counts-next : (s : State) → Counts s → (c : Call) → Counts (next s c)
 unfolding next call

@@ -43,6 +43,7 @@ mapValue φ v =
     record {
       place = v .place;
       stamp = mapStamp φ (v .stamp);
+      learnt = v .learnt;
       slot = v .slot;
       verdict = v .verdict;
       relation = v .relation;

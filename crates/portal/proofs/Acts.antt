@@ -24,7 +24,7 @@ use Rattle.rules.specs.declared.Kept.the-variants as Keeps
 use Rattle.rules.specs.Model.{Row, Held, Tables, Act, local, send, receive, reset, drop, discard, made, refusal, accepted}
 use Rattle.rules.specs.Model.{Result, reasons, done, own, seated, event, freeMail, freeSlot, slotFor, used}
 use Rattle.rules.specs.Calls.{on, ringOf}
-use Rattle.rules.specs.Replies.{rowBytes, rowOf, slotIn, stampedSays, postedSays, blank, Beside, BesidePost}
+use Rattle.rules.specs.Replies.{rowBytes, rowOf, slotIn, eventSays, stampedSays, postedSays, blank, Beside, BesideLearnt, BesidePost}
 use Rattle.rules.proofs.Accepted.{no-local, no-send, no-receive, no-reset}
 use lib.ListN.{length}
 use Rattle.book.specs.Layout.{bookSize, seats, shelfFrom, mailFrom, setupOf, Holds, post}
@@ -38,7 +38,7 @@ use Rattle.book.proofs.Puts.{seat-put, mail-put, slot-put}
 use Rattle.book.proofs.Numbers.{doneOn, refused-answer, refused-bytes, ready, accepted-answer, accepted-bytes}
 use Rattle.book.proofs.Stamped.{seat-put-eight, merged-eight}
 use Rattle.book.proofs.Told.{few-desks}
-use Rattle.rows.specs.Rows.{AtDesk, Grows, grownRow, turnedRow, mergedRow}
+use Rattle.rows.specs.Rows.{AtDesk, Grows, grownRow, turnedRow, mergedRow, learntFrom}
 use Rattle.rows.proofs.Rows.{at-desk, grows}
 use Rattle.reasons.specs.Held.{usedAt}
 use Rattle.refusals.specs.First.{usedNumber}
@@ -58,6 +58,11 @@ Files s c n b = (refusal n ≡ answerTo s (on c)) × (b ≡ bookAfter s (on c))
 abbrev pub Stamps : List ℕ → Act → Stamped → List ℕ → Type 0
 Stamps s c r b = (stampedSays r ≡ answerTo s (on c)) × (Beside (r .number) (r .stamp) (r .kept) × (b ≡ bookAfter s (on c)))
 
+-- a number with a stamp, the number of desks learnt of and the slot beside it
+abbrev pub Receives : List ℕ → Act → ℕ → Stamp → ℕ → Kept → List ℕ → Type 0
+Receives s c n x l k b =
+    (eventSays n x (some l) k ≡ answerTo s (on c)) × (Beside n x k × (BesideLearnt n l × (b ≡ bookAfter s (on c))))
+
 -- a place with a stamp and its slot beside it
 abbrev pub Sends : List ℕ → Act → Posted → Stamp → Kept → List ℕ → Type 0
 Sends s c p x k b = (postedSays p x k ≡ answerTo s (on c)) × (BesidePost p x k × (b ≡ bookAfter s (on c)))
@@ -66,6 +71,10 @@ blank-beside : (n : ℕ) → Beside n blank Keeps.No
 blank-beside zero = tt
 blank-beside (suc n) = (refl, refl)
 
+none-beside : (n : ℕ) → BesideLearnt n 0
+none-beside zero = tt
+none-beside (suc n) = refl
+
 -- refused
 pub refused-files : (s : List ℕ) (c : Act) (n : ℕ) → n ≡ numberOf s c → (n ≡ 0 → ⊥) → Files s c n s
 refused-files s c n e ne = (refused-answer s c n e ne, refused-bytes s c n e ne)
@@ -73,17 +82,23 @@ refused-files s c n e ne = (refused-answer s c n e ne, refused-bytes s c n e ne)
 -- an event that is refused
 module _ (s : List ℕ) (c : Act) (n : ℕ) (e : n ≡ numberOf s c) (ne : n ≡ 0 → ⊥) where
   pub refused-stamps : (r : Stamped) → r ≡ record { number = n; stamp = blank; kept = Keeps.No } → Stamps s c r s
-  unfolding stampedSays
+  unfolding eventSays
   refused-stamps r z =
       let f = refused-files s c n e ne in
       subst (λ (r : Stamped). Stamps s c r s) (sym z) (rw (ne-eqb n 0 ne) (f .0), (blank-beside n, f .1))
+
+  pub refused-receives : (x : Stamp) → x ≡ blank → Receives s c n x 0 Keeps.No s
+  unfolding eventSays
+  refused-receives x z =
+      let f = refused-files s c n e ne in
+      subst (λ (x : Stamp). Receives s c n x 0 Keeps.No s) (sym z) (rw (ne-eqb n 0 ne) (f .0), (blank-beside n, (none-beside n, f .1)))
 
   pub refused-sends : (x : Stamp) → x ≡ blank → Sends s c (Posts.Refused n) x Keeps.No s
   refused-sends x z = let f = refused-files s c n e ne in (f .0, ((z, refl), f .1))
 
 -- the stamp of an event at j that leaves the bytes of a row, and its slot
-abbrev pub taken : ℕ → List ℕ → ℕ → Stamped
-taken j row k = record { number = 0; stamp = record { owner = j; row = row }; kept = keptIn k }
+abbrev pub stamped : ℕ → List ℕ → ℕ → Stamped
+stamped j row k = record { number = 0; stamp = record { owner = j; row = row }; kept = keptIn k }
 
 -- the slot for an event: 32, which is none, where it is not kept
 abbrev slotTo : Tables → Bool → ℕ
@@ -113,8 +128,8 @@ abbrev posted : List ℕ → (ℕ → Option Held) → Tables
 posted s mail = record { seat = tablesOf s .seat; mail = mail; shelf = tablesOf s .shelf }
 
 -- an event at j that leaves row r: b has the mail already; j's seat is written, then the slot
-module _ (s : List ℕ) (c : Act) (e : numberOf s c ≡ 0) (j : ℕ) (l : j < 8) (r : Row) (q : Bool) (p : Option ℕ) (mail : ℕ → Option Held)
-    (d : doneOn s c ≡ event (tablesOf s) j r q p mail) (room : Each (λ k. k < 32) (slotFor (tablesOf s) q)) (b : List ℕ)
+module _ (s : List ℕ) (c : Act) (e : numberOf s c ≡ 0) (j : ℕ) (l : j < 8) (r : Row) (q : Bool) (p o : Option ℕ) (mail : ℕ → Option Held)
+    (d : doneOn s c ≡ event (tablesOf s) j r q p o mail) (room : Each (λ k. k < 32) (slotFor (tablesOf s) q)) (b : List ℕ)
     (h : Holds (write (record { setup = setupOf s; tables = posted s mail })) b)
     (row : List ℕ) (er : row ≡ rowBytes r) (k : ℕ) (ek : k ≡ slotTo (tablesOf s) q) where
   abbrev seat-taken : Tables
@@ -130,18 +145,18 @@ module _ (s : List ℕ) (c : Act) (e : numberOf s c ≡ 0) (j : ℕ) (l : j < 8)
       (slot-left (setupOf s) seat-taken (post b j 1 0 (rowBytes r))
       (seat-put (setupOf s) (posted s mail) b h j l (record { started = true; row = r })) j r q room))
 
-  event-said : Eight r → accepted (made p j (rowOf row) (slotIn (keptIn k))) ≡ answerTo s (on c)
+  event-said : Eight r → accepted (made p j (rowOf row) o (slotIn (keptIn k))) ≡ answerTo s (on c)
   event-said z =
       let er′ = ap rowOf er ∙ row-of-bytes r z in
       let ek′ = ap (λ (k : ℕ). slotIn (keptIn k)) ek ∙ slot-said (tablesOf s) q room in
-      (λ i. accepted (made p j (er′ i) (ek′ i))) ∙ ap (λ (o : Result). o .answer) (sym d) ∙ accepted-answer s c e
+      (λ i. accepted (made p j (er′ i) o (ek′ i))) ∙ ap (λ (o : Result). o .answer) (sym d) ∙ accepted-answer s c e
 
-  event-stamps : p ≡ none → Eight r → (x : Stamped) (b′ : List ℕ) → x ≡ taken j row k → b′ ≡ shelved (post b j 1 0 row) j row k
+  event-stamps : p ≡ none → o ≡ none → Eight r → (x : Stamped) (b′ : List ℕ) → x ≡ stamped j row k → b′ ≡ shelved (post b j 1 0 row) j row k
       → Stamps s c x b′
-  unfolding stampedSays
-  event-stamps n z x b′ ex eb =
+  unfolding eventSays
+  event-stamps n m z x b′ ex eb =
       subst (λ (y : Stamped). Stamps s c y b′) (sym ex)
-      (ap (λ (p : Option ℕ). accepted (made p j (rowOf row) (slotIn (keptIn k)))) (sym n) ∙ event-said z, (tt, event-left b′ eb))
+      ((λ i. accepted (made (sym n i) j (rowOf row) (sym m i) (slotIn (keptIn k)))) ∙ event-said z, (tt, event-left b′ eb))
 
 -- and where nothing but the desk's own pair changes
 module _ (s : List ℕ) (c : Act) (q : Bool) (g : Grant) (e : g ≡ grantOf s c q) (z : g .number ≡ 0) (j : ℕ) (at : AtDesk s j) (o : Pair)
@@ -149,11 +164,11 @@ module _ (s : List ℕ) (c : Act) (q : Bool) (g : Grant) (e : g ≡ grantOf s c 
   abbrev after : Row
   after = put (tablesOf s .seat j .row) j o
 
-  seat-stamps : doneOn s c ≡ event (tablesOf s) j after q none (tablesOf s .mail) → (x : Stamped) (row b : List ℕ)
-      → x ≡ taken j row (g .slot) → row ≡ rowBytes after → b ≡ shelved (post s j 1 0 row) j row (g .slot) → Stamps s c x b
+  seat-stamps : doneOn s c ≡ event (tablesOf s) j after q none none (tablesOf s .mail) → (x : Stamped) (row b : List ℕ)
+      → x ≡ stamped j row (g .slot) → row ≡ rowBytes after → b ≡ shelved (post s j 1 0 row) j row (g .slot) → Stamps s c x b
   seat-stamps d x row b ex er eb =
-      event-stamps s c (sym (grant-number s c q g e) ∙ z) j (at .eight) after q none (tablesOf s .mail) d room s
-      (decode-holds s (at .whole)) row er (g .slot) (grant-slot s c q g e z) refl (seat-put-eight s j (at .eight) o) x b ex eb
+      event-stamps s c (sym (grant-number s c q g e) ∙ z) j (at .eight) after q none none (tablesOf s .mail) d room s
+      (decode-holds s (at .whole)) row er (g .slot) (grant-slot s c q g e z) refl refl (seat-put-eight s j (at .eight) o) x b ex eb
 
 module _ (s : List ℕ) (j : ℕ) (q : Bool) (g : Grant) (e : g ≡ grantOf s (local j q) q) (z : g .number ≡ 0) where
   local-ready : (sound s ≡ true) × (whyOf s (local j q) ≡ 0)
@@ -168,7 +183,7 @@ module _ (s : List ℕ) (j : ℕ) (q : Bool) (g : Grant) (e : g ≡ grantOf s (l
   pub local-seat : (length s ≡ bookSize) × (j < seats)
   local-seat = (local-grows .at .size, local-grows .at .eight)
 
-  pub local-stamps : (x : Stamped) (row b : List ℕ) → x ≡ taken j row (g .slot) → row ≡ rowBytes (grownRow s j)
+  pub local-stamps : (x : Stamped) (row b : List ℕ) → x ≡ stamped j row (g .slot) → row ≡ rowBytes (grownRow s j)
       → b ≡ shelved (post s j 1 0 row) j row (g .slot) → Stamps s (local j q) x b
   unfolding done
   local-stamps = seat-stamps s (local j q) q g e z j (local-grows .at) _ (local-clear .2) refl
@@ -183,7 +198,7 @@ module _ (s : List ℕ) (j : ℕ) (q : Bool) (g : Grant) (e : g ≡ grantOf s (r
   pub reset-seat : (length s ≡ bookSize) × (j < seats)
   reset-seat = (reset-at .size, reset-at .eight)
 
-  pub reset-stamps : (x : Stamped) (row b : List ℕ) → x ≡ taken j row (g .slot) → row ≡ rowBytes (turnedRow s j)
+  pub reset-stamps : (x : Stamped) (row b : List ℕ) → x ≡ stamped j row (g .slot) → row ≡ rowBytes (turnedRow s j)
       → b ≡ shelved (post s j 1 0 row) j row (g .slot) → Stamps s (reset j q) x b
   unfolding done
   reset-stamps =
@@ -204,16 +219,28 @@ module _ (s : List ℕ) (j p : ℕ) (q : Bool) (g : Grant) (e : g ≡ grantOf s 
   pub receive-place : p < 32
   receive-place = receive-clear .3
 
-  pub receive-stamps : (x : Stamped) (row b b′ : List ℕ) → x ≡ taken j row (g .slot) → row ≡ rowBytes (mergedRow s j p)
-      → b ≡ cleared s (mailFrom + p) → b′ ≡ shelved (post b j 1 0 row) j row (g .slot) → Stamps s (receive j p q) x b′
-  unfolding done
-  receive-stamps x row b b′ ex er eb eb′ =
+  pub receive-receives : (x : Stamped) (n : ℕ) (row b b′ : List ℕ) → x ≡ stamped j row (g .slot) → row ≡ rowBytes (mergedRow s j p)
+      → n ≡ learntFrom s j p → b ≡ cleared s (mailFrom + p) → b′ ≡ shelved (post b j 1 0 row) j row (g .slot)
+      → Receives s (receive j p q) 0 (x .stamp) n (x .kept) b′
+  unfolding done eventSays
+  receive-receives x n row b b′ ex er en eb eb′ =
       let a = receive-grows .at in
-      event-stamps s (receive j p q) receive-done j (a .eight) (mergedRow s j p) q none (put (tablesOf s .mail) p none) refl
-      (receive-clear .4) (cleared s (mailFrom + p))
-      (mail-put (setupOf s) (tablesOf s) s (decode-holds s (a .whole)) p receive-place none) row er (g .slot)
-      (grant-slot s (receive j p q) q g e z) refl (merged-eight s (ringOf (setupOf s)) j p (a .eight)) x b′ ex
-      (eb′ ∙ ap (λ (y : List ℕ). shelved (post y j 1 0 row) j row (g .slot)) eb)
+      let h = mail-put (setupOf s) (tablesOf s) s (decode-holds s (a .whole)) p receive-place none in
+      let mail = put (tablesOf s .mail) p none in
+      let o = grant-slot s (receive j p q) q g e z in (
+        (λ i. accepted (made none (ex i .stamp .owner) (rowOf (ex i .stamp .row)) (some (en i)) (slotIn (ex i .kept))))
+            ∙ event-said s (receive j p q) receive-done j (a .eight) (mergedRow s j p) q none (some (learntFrom s j p)) mail refl
+            (receive-clear .4) (cleared s (mailFrom + p)) h row er (g .slot) o (merged-eight s (ringOf (setupOf s)) j p (a .eight)),
+        (
+          tt,
+          (
+            tt,
+            event-left s (receive j p q) receive-done j (a .eight) (mergedRow s j p) q none (some (learntFrom s j p)) mail refl
+                (receive-clear .4) (cleared s (mailFrom + p)) h row er (g .slot) o b′
+                (eb′ ∙ ap (λ (y : List ℕ). shelved (post y j 1 0 row) j row (g .slot)) eb),
+          ),
+        ),
+      )
 
 module _ (s : List ℕ) (j k : ℕ) (q : Bool) (g : Grant) (e : g ≡ grantOf s (send j k q) q) (z : g .number ≡ 0) where
   send-done : numberOf s (send j k q) ≡ 0
@@ -236,7 +263,7 @@ module _ (s : List ℕ) (j k : ℕ) (q : Bool) (g : Grant) (e : g ≡ grantOf s 
   abbrev mailed : List ℕ
   mailed = post s (8 + freeMail (tablesOf s)) (j + 1) (k + 1) (rowBytes (grownRow s j))
 
-  pub send-sends : (p : ℕ) (x : Stamped) (row b b′ : List ℕ) → p ≡ freeMail (tablesOf s) → x ≡ taken j row (g .slot)
+  pub send-sends : (p : ℕ) (x : Stamped) (row b b′ : List ℕ) → p ≡ freeMail (tablesOf s) → x ≡ stamped j row (g .slot)
       → row ≡ rowBytes (grownRow s j) → b ≡ post s (mailFrom + p) (j + 1) (k + 1) row
       → b′ ≡ shelved (post b j 1 0 row) j row (g .slot)
       → Sends s (send j k q) (Posts.At p) (x .stamp) (x .kept) b′
@@ -247,12 +274,12 @@ module _ (s : List ℕ) (j k : ℕ) (q : Bool) (g : Grant) (e : g ≡ grantOf s 
       (some record { by = j; to = k; row = grownRow s j }) in
       let mail = put (tablesOf s .mail) (freeMail (tablesOf s)) (some record { by = j; to = k; row = grownRow s j }) in
       let o = grant-slot s (send j k q) q g e z in (
-        (λ i. accepted (made (some (ep i)) (ex i .stamp .owner) (rowOf (ex i .stamp .row)) (slotIn (ex i .kept))))
-            ∙ event-said s (send j k q) send-done j (a .eight) (grownRow s j) q (some (freeMail (tablesOf s))) mail refl (send-clear .5)
+        (λ i. accepted (made (some (ep i)) (ex i .stamp .owner) (rowOf (ex i .stamp .row)) none (slotIn (ex i .kept))))
+            ∙ event-said s (send j k q) send-done j (a .eight) (grownRow s j) q (some (freeMail (tablesOf s))) none mail refl (send-clear .5)
             mailed h row er (g .slot) o (seat-put-eight s j (a .eight) _),
         (
           tt,
-          event-left s (send j k q) send-done j (a .eight) (grownRow s j) q (some (freeMail (tablesOf s))) mail refl (send-clear .5)
+          event-left s (send j k q) send-done j (a .eight) (grownRow s j) q (some (freeMail (tablesOf s))) none mail refl (send-clear .5)
               mailed h row er (g .slot) o b′
               (eb′ ∙ ap (λ (y : List ℕ). shelved (post y j 1 0 row) j row (g .slot))
               (eb ∙ (λ i. post s (8 + ep i) (j + 1) (k + 1) (er i)))),

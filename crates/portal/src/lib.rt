@@ -7,8 +7,8 @@ ghost use Rattle.rules.specs.Model;
 ghost use Rattle.rules.specs.Model.{refusal};
 ghost use Rattle.rules.specs.Calls;
 ghost use Rattle.rules.specs.Calls.{on};
-ghost use Rattle.rules.specs.Replies.{stampedSays, postedSays, toldSays, comparedSays, blank};
-ghost use Rattle.rules.specs.Replies.{Beside, BesidePost};
+ghost use Rattle.rules.specs.Replies.{stampedSays, receivedSays, postedSays, toldSays, comparedSays, blank};
+ghost use Rattle.rules.specs.Replies.{Beside, BesideLearnt, BesidePost};
 ghost use Rattle.rules.specs.declared.Kept.the-variants as Keeps;
 ghost use Rattle.book.specs.Layout;
 ghost use Rattle.book.specs.Layout.{bookSize, records, shelfFrom, seats, setupOf};
@@ -20,6 +20,7 @@ ghost use Rattle.portal.specs.Kept.{keptIn, shelved};
 use rules::Compared;
 use rules::Kept;
 use rules::Posted;
+use rules::Received;
 use rules::Sent;
 use rules::Setup;
 use rules::Stamp;
@@ -162,20 +163,37 @@ pub fn send(book: &mut [u8], desk: usize, to: usize, keep: bool) -> Sent
     }
 }
 
-// Receive at a desk from a place: its own clock grows by 1; for every other desk, the later of the two pairs; the place is free.
-pub fn receive(book: &mut [u8], desk: usize, place: usize, keep: bool) -> Stamped
-    ensures { λ r. ⌜ stampedSays r ≡ answerTo (now (book .entry)) (on (Model.receive desk place keep)) ⌝ }
+// Receive at a desk from a place: its own clock grows by 1; for every other desk, the later of the two pairs; the place is free. It
+// answers how many of these pairs changed.
+pub fn receive(book: &mut [u8], desk: usize, place: usize, keep: bool) -> Received
+    ensures { λ r. ⌜ receivedSays r ≡ answerTo (now (book .entry)) (on (Model.receive desk place keep)) ⌝ }
     ensures { λ r. ⌜ Beside (r .number) (r .stamp) (r .kept) ⌝ }
+    ensures { λ r. ⌜ BesideLearnt (r .number) (r .learnt) ⌝ }
     ensures { λ _. ⌜ now (book .exit) ≡ bookAfter (now (book .entry)) (on (Model.receive desk place keep)) ⌝ }
 {
     let grant = refusals::receive_grant(&book[..], desk, place, keep);
     if grant.number != rules::DONE {
-        return refused(grant.number);
+        let stamp = no_stamp();
+        return Received {
+            number: grant.number,
+            stamp: stamp,
+            learnt: 0,
+            kept: Kept::No,
+        };
     }
-    let row = rows::merged_row(&book[..], desk, place);
+    let merged = rows::merged_row(&book[..], desk, place);
+    let row = merged.row;
     let from = parts::MAIL + place;
     clear(book, from);
-    take_row(book, desk, row, grant.slot)
+    let stamped = take_row(book, desk, row, grant.slot);
+    let stamp = stamped.stamp;
+    let kept = stamped.kept;
+    Received {
+        number: rules::DONE,
+        stamp: stamp,
+        learnt: merged.learnt,
+        kept: kept,
+    }
 }
 
 // Reset at a desk: its own phase grows by 1 modulo P and its own clock becomes 0. No other seat changes.

@@ -1,3 +1,4 @@
--- How long the parts of a line are, and what stands behind them.
+-- How long the parts of a line are, what stands behind them, and lines by hand.
 pub mod Lengths
 pub mod Behind
+pub mod ByHand

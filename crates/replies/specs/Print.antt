@@ -8,7 +8,7 @@
 --   verdictText t     a space and yes or no
 --   then s f o        the text s, and behind it f of what o holds, if it holds something
 --   answerText D a    the line in a book of D desks: the number, then each part of the value that is there
---   longest           the bytes of the longest line: number, place, owner, eight pairs, slot and newline
+--   longest           the bytes of the longest line: number, owner, eight pairs, a place or a number of desks, slot and newline
 --   Printable D a     there are at most eight desks, where their pairs may be asked for
 use Prim.Native.Nat.{ℕ, zero, suc, _≤_}
 use mathlib.Core.Path.{_≡_}
@@ -51,7 +51,8 @@ abbrev pub answerText : ℕ → Answer → List ℕ
 answerText D a =
     let placed = then (three (a .number)) field (a .value .place) in
     let stamped = then placed (λ (e : Label). stampText D (e .owner) (e .row)) (a .value .stamp) in
-    let kept = then stamped field (a .value .slot) in
+    let learnt = then stamped field (a .value .learnt) in
+    let kept = then learnt field (a .value .slot) in
     let told = then kept verdictText (a .value .verdict) in
     then told wordText (a .value .relation) ++ (10 ∷ [])
 

@@ -5,11 +5,12 @@ ghost use mathlib.Core.List.{[]};
 ghost use lib.ListN.{length};
 ghost use Rattle.text.specs.Put.{Wrote, field};
 ghost use Rattle.rules.specs.Model.{refusal, accepted, relates};
-ghost use Rattle.rules.specs.Replies.{rowOf, slotIn, stampedSays, postedSays, toldSays, comparedSays};
+ghost use Rattle.rules.specs.Replies.{rowOf, slotIn, stampedSays, receivedSays, postedSays, toldSays, comparedSays};
 ghost use Rattle.replies.specs.Print.{pair, pairs, stampText, then, answerText, longest, Printable};
 use rules::Compared;
 use rules::Kept;
 use rules::Posted;
+use rules::Received;
 use rules::Relation;
 use rules::Sent;
 use rules::Stamp;
@@ -82,7 +83,7 @@ pub fn put_number(out: &mut [u8], at: usize, n: u8) -> usize
     text::put_byte(out, a, b'\n')
 }
 
-// The line of an answer to local, receive or reset.
+// The line of an answer to local or reset.
 pub fn put_stamped(out: &mut [u8], at: usize, desks: u8, r: Stamped) -> usize
     requires { ⌜ Printable desks (stampedSays r) × (at + longest ≤ length (now out)) ⌝ }
     ensures { λ n. ⌜ Wrote (now (out .entry)) at (answerText desks (stampedSays r)) (now (out .exit)) n ⌝ }
@@ -96,6 +97,24 @@ pub fn put_stamped(out: &mut [u8], at: usize, desks: u8, r: Stamped) -> usize
     let b = put_stamp(out, a, desks, s);
     let c = put_slot(out, b, kept);
     text::put_byte(out, c, b'\n')
+}
+
+// The line of an answer to receive.
+pub fn put_received(out: &mut [u8], at: usize, desks: u8, r: Received) -> usize
+    requires { ⌜ Printable desks (receivedSays r) × (at + longest ≤ length (now out)) ⌝ }
+    ensures { λ n. ⌜ Wrote (now (out .entry)) at (answerText desks (receivedSays r)) (now (out .exit)) n ⌝ }
+{
+    if r.number != rules::DONE {
+        return put_number(out, at, r.number);
+    }
+    let s = r.stamp;
+    let learnt = r.learnt;
+    let kept = r.kept;
+    let a = text::put_three(out, at, rules::DONE);
+    let b = put_stamp(out, a, desks, s);
+    let c = put_field(out, b, learnt);
+    let d = put_slot(out, c, kept);
+    text::put_byte(out, d, b'\n')
 }
 
 // The line of an answer to send.

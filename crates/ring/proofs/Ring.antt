@@ -1,8 +1,8 @@
 -- Laws of the ring, for any P; the ring agrees with the line wherever the true difference is below P.
 -- Assumes nothing.
 use mathlib.Core.Path.{_≡_, refl, ap, sym, _∙_}
-use mathlib.Core.Bool.{Bool, true, false, _&&_}
-use mathlib.Core.Logic.{_⊎_, inl, inr}
+use mathlib.Core.Bool.{Bool, true, false, _&&_, true≢false}
+use mathlib.Core.Logic.{_⊎_, inl, inr, _↔_}
 use mathlib.Core.List.{[], _∷_, map}
 use Prim.Native.Nat.{ℕ, _+_, _-_, _*_, _%_, _≤_, _<_}
 use native.Mathlib.Omega.{arith}
@@ -10,6 +10,7 @@ use native.Mathlib.Nat.{mul-le-mul-right, mod-lt, mod-eq-of-lt, mod-add-mod, add
 use native.Mathlib.Decide.{decLt}
 use lib.Dec.{ltb, eqb}
 use borrow.Author.Tests.{eqb-true, eq-eqb, ltb-true, ltb-false, lt-ltb, le-ltb, le-leb, lt-leb}
+use Rattle.tools.specs.Tests.{pick}
 use Rattle.tools.proofs.Tests.{and-true-l, or-false-l, lt-or-le}
 use Rattle.ring.specs.Phases.{Pair, Phases, Gap, ring, lagOf, nextOf, laterBy, lagGap, isLater, later}
 use Rattle.ring.specs.Remainder.{remainderOf}
@@ -17,6 +18,15 @@ use Rattle.ring.specs.Remainder.{remainderOf}
 -- by hand, on a ring of five: how far each phase lags behind 1
 pub lag-worked : map (lagOf 5 1) (0 ∷ 1 ∷ 2 ∷ 3 ∷ 4 ∷ []) ≡ 1 ∷ 0 ∷ 4 ∷ 3 ∷ 2 ∷ []
 lag-worked = refl
+
+-- by hand, there: whether the pair 0.2 is changed by an equal one, by a larger and a smaller clock, by the own phase and by an older one
+abbrev pair : ℕ → ℕ → Pair
+pair v t = record { phase = v; clock = t }
+
+pub changed-worked : map (λ (f : Pair). later (ring 5) 1 (pair 0 2) f .changed) (pair 0 2 ∷ pair 0 3 ∷ pair 0 1 ∷ pair 1 0 ∷ pair 4 9 ∷ [])
+    ≡ false ∷ true ∷ false ∷ true ∷ false ∷ []
+unfolding laterBy
+changed-worked = refl
 
 -- the two lines
 pub lag-down : (P own v : ℕ) → v ≤ own → lagOf P own v ≡ own - v
@@ -168,11 +178,33 @@ unfolding laterBy
 later-clock Z o e f q =
     rw (q, le-ltb (Z .lag o (e .phase)) (Z .lag o (e .phase)) (omega arith), eq-eqb (Z .lag o (e .phase)) (Z .lag o (e .phase)) refl)
 
-pub later-takes : (Z : Phases) (o : ℕ) (e f : Pair) → isLater Z o f e ≡ true → later Z o e f ≡ f
+pub later-takes : (Z : Phases) (o : ℕ) (e f : Pair) → isLater Z o f e ≡ true → later Z o e f .pair ≡ f
 later-takes Z o e f t = rw t
 
-pub later-stays : (Z : Phases) (o : ℕ) (e f : Pair) → isLater Z o f e ≡ false → later Z o e f ≡ e
+pub later-stays : (Z : Phases) (o : ℕ) (e f : Pair) → isLater Z o f e ≡ false → later Z o e f .pair ≡ e
 later-stays Z o e f t = rw t
+
+-- no pair is later than itself
+pub not-later : (Z : Phases) (o : ℕ) (e : Pair) → isLater Z o e e ≡ false
+not-later Z o e = later-clock Z o e e refl ∙ le-ltb (e .clock) (e .clock) (omega arith)
+
+-- what is taken, by the test
+pub takes-other : (Z : Phases) (o : ℕ) (e f : Pair) → isLater Z o f e ≡ true → later Z o e f ≡ record { pair = f; changed = true }
+takes-other Z o e f t = rw t
+
+pub takes-held : (Z : Phases) (o : ℕ) (e f : Pair) → isLater Z o f e ≡ false → later Z o e f ≡ record { pair = e; changed = false }
+takes-held Z o e f t = rw t
+
+-- CHANGED: exactly where the pair that is taken differs from the held one, in any arithmetic
+pub changed-differs : (Z : Phases) (o : ℕ) (e f : Pair) → (later Z o e f .changed ≡ true) ↔ (later Z o e f .pair ≡ e → ⊥)
+changed-differs Z o e f = (
+  λ t q. true≢false (sym t ∙ ap (λ (x : Pair). isLater Z o x e) (sym (later-takes Z o e f t) ∙ q) ∙ not-later Z o e),
+  go (isLater Z o f e),
+)
+  where
+    go : (t : Bool) → (pick t f e ≡ e → ⊥) → t ≡ true
+    go true d = refl
+    go false d = absurd (d refl)
 
 -- the later of two pairs lags no more, in any arithmetic
 pub later-lag : (Z : Phases) (o : ℕ) (e f : Pair) → isLater Z o f e ≡ true → Z .lag o (f .phase) ≤ Z .lag o (e .phase)
@@ -199,10 +231,10 @@ not-later-lag Z o e f t = ltb-false _ _ (or-false-l (ltb (Z .lag o (f .phase)) (
 
 -- the later of two pairs lags no more than either, in any arithmetic
 pub later-least : (Z : Phases) (o : ℕ) (e f : Pair)
-    → (Z .lag o (later Z o e f .phase) ≤ Z .lag o (e .phase)) × (Z .lag o (later Z o e f .phase) ≤ Z .lag o (f .phase))
+    → (Z .lag o (later Z o e f .pair .phase) ≤ Z .lag o (e .phase)) × (Z .lag o (later Z o e f .pair .phase) ≤ Z .lag o (f .phase))
 later-least Z o e f = go (isLater Z o f e) refl
   where
     go : (t : Bool) → isLater Z o f e ≡ t
-        → (Z .lag o (later Z o e f .phase) ≤ Z .lag o (e .phase)) × (Z .lag o (later Z o e f .phase) ≤ Z .lag o (f .phase))
+        → (Z .lag o (later Z o e f .pair .phase) ≤ Z .lag o (e .phase)) × (Z .lag o (later Z o e f .pair .phase) ≤ Z .lag o (f .phase))
     go true q = rw (later-takes Z o e f q) (later-lag Z o e f q, omega arith)
     go false q = rw (later-stays Z o e f q) (omega arith, not-later-lag Z o e f q)

@@ -10,7 +10,8 @@
 --   laterBy d ce cf    f is later than e, by the difference d from e to f: d above 0, or 0 and the larger clock
 --   lagGap Z own e f   the difference from pair e to pair f of a desk whose own phase is own: lag of e minus lag of f
 --   isLater Z own f e  f is later than e: a smaller lag, and at equal lag the larger clock
---   later Z own e f    the later of the two, e unless f is later
+--   Taken              the pair that is taken of two, and whether the held one changed
+--   later Z own e f    what is taken of the held pair e and another, f: f where it is later, and then e has changed; else e
 use mathlib.Core.Bool.{Bool, _&&_, _||_}
 use Prim.Native.Nat.{ℕ, _+_, _-_, _%_}
 use lib.Dec.{leb, ltb, eqb}
@@ -56,5 +57,9 @@ lagGap Z own e f = record { up = Z .lag own (e .phase); down = Z .lag own (f .ph
 abbrev pub isLater : Phases → ℕ → Pair → Pair → Bool
 isLater Z own f e = laterBy (lagGap Z own e f) (e .clock) (f .clock)
 
-abbrev pub later : Phases → ℕ → Pair → Pair → Pair
-later Z own e f = pick (isLater Z own f e) f e
+pub record Taken : Type 0 where
+  pub pair : Pair
+  pub changed : Bool
+
+abbrev pub later : Phases → ℕ → Pair → Pair → Taken
+later Z own e f = record { pair = pick (isLater Z own f e) f e; changed = isLater Z own f e }

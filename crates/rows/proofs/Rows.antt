@@ -1,17 +1,21 @@
 -- New rows, byte by byte.
 -- Assumes nothing.
-use Prim.Native.Nat.{ℕ, _+_, _*_, _<_}
+use Prim.Native.Nat.{ℕ, _+_, _*_, _≤_, _<_}
 use mathlib.Core.Path.{_≡_, sym, ap, _∙_}
-use mathlib.Core.Bool.{true}
+use mathlib.Core.Bool.{true, false, not, _&&_}
 use mathlib.Core.List.{List}
 use native.Mathlib.Omega.{arith}
+use lib.Dec.{eqb}
 use lib.ListN.{set}
+use Rattle.tools.specs.Tests.{count}
 use Rattle.tools.specs.Tables.{put}
 use Rattle.tools.specs.Lists.{byte, Filled}
+use Rattle.tools.proofs.Tests.{and-false, count-cong, count-beyond}
 use Rattle.tools.proofs.Tables.{put-both}
 use Rattle.tools.proofs.Lists.{filled-more}
-use Rattle.ring.specs.Phases.{Pair, later}
-use Rattle.rules.specs.Model.{Row, own, rowIn, tick, turn}
+use Rattle.ring.specs.Phases.{Pair, isLater, Taken, later}
+use Rattle.ring.proofs.Ring.{not-later}
+use Rattle.rules.specs.Model.{Row, zeros, own, rowIn, tick, turn, taken, learns}
 use Rattle.rules.specs.Calls.{ringOf}
 use Rattle.rules.specs.Replies.{rowByte, rowBytes}
 use Rattle.book.specs.Layout.{phaseSpot, clockSpot, mailFrom, setupOf, rowAt}
@@ -21,8 +25,8 @@ use Rattle.rules.proofs.RowBytes.{row-phase, row-clock, rows-alike}
 use Rattle.book.proofs.Rows.{set-pair}
 use Rattle.book.proofs.Told.{seat-row, read-at, own-at, few-desks, room}
 use Rattle.book.proofs.Soundness.{sound-size}
-use Rattle.book.proofs.Below.{mail-row}
-use Rattle.rows.specs.Rows.{AtDesk, Grows, laterRow, withPair, grownRow, turnedRow, mergedRow}
+use Rattle.book.proofs.Below.{mail-row, seat-beyond, mail-beyond}
+use Rattle.rows.specs.Rows.{AtDesk, Grows, takenAt, laterRow, learnsAt, withPair, grownRow, turnedRow, mergedRow, learntFrom}
 
 -- a desk of a sound book has a seat, and a clock below its limit may grow
 pub at-desk : (s : List ℕ) (j : ℕ) → sound s ≡ true → j < byte s 2 → AtDesk s j
@@ -68,15 +72,36 @@ module _ (s : List ℕ) (j : ℕ) (l : j < 8) where
       (turn (ringOf (setupOf s)) (own (tablesOf s) j)) (ap (turn (ringOf (setupOf s))) (sym (own-at s j l))) seat-at
 
   -- p a mail place
-  pub merged-bytes : sound s ≡ true → (p : ℕ) → p < 32
-      → withPair (rowBytes (laterRow s j (mailFrom + p))) j (tick (rowAt s j j)) ≡ rowBytes (mergedRow s j p)
-  merged-bytes h p lp =
-      set-pair (laterRow s j (mailFrom + p)) j l (tick (rowAt s j j))
-      ∙ put-alike (laterRow s j (mailFrom + p))
-      (λ k. later (ringOf (setupOf s)) (own (tablesOf s) k .phase) (tablesOf s .seat j .row k) (rowIn (tablesOf s .mail p) k)) j
-      (tick (rowAt s j j)) (tick (own (tablesOf s) j)) (ap tick (sym (own-at s j l)))
-      (λ k m.
-      let o = sym (own-at s k m) in
-      let a = seat-at k m in
-      let w = mail-row s h p k lp m in
-      λ i. later (ringOf (setupOf s)) (o i .phase) (a i) (w i))
+  module _ (h : sound s ≡ true) (p : ℕ) (lp : p < 32) where
+    abbrev mail : Row
+    mail = rowIn (tablesOf s .mail p)
+
+    -- what is taken of the bytes is what is taken of the tables
+    taken-at : (k : ℕ) → k < 8 → takenAt s j (mailFrom + p) k ≡ taken (ringOf (setupOf s)) (tablesOf s) j mail k
+    taken-at k m =
+        let o = sym (own-at s k m) in
+        let a = seat-at k m in
+        let w = mail-row s h p k lp m in
+        λ i. later (ringOf (setupOf s)) (o i .phase) (a i) (w i)
+
+    pub merged-bytes : withPair (rowBytes (laterRow s j (mailFrom + p))) j (tick (rowAt s j j)) ≡ rowBytes (mergedRow s j p)
+    merged-bytes =
+        set-pair (laterRow s j (mailFrom + p)) j l (tick (rowAt s j j))
+        ∙ put-alike (laterRow s j (mailFrom + p)) (λ k. taken (ringOf (setupOf s)) (tablesOf s) j mail k .pair) j
+        (tick (rowAt s j j)) (tick (own (tablesOf s) j)) (ap tick (sym (own-at s j l)))
+        (λ k m. ap (λ (t : Taken). t .pair) (taken-at k m))
+
+    -- of a desk that is not there nothing is learnt
+    none-beyond : (k : ℕ) → byte s 2 ≤ k → learns (ringOf (setupOf s)) (tablesOf s) j mail k ≡ false
+    none-beyond k m =
+        let o = own (tablesOf s) k .phase in
+        let a = seat-beyond s h j k m in
+        let w = mail-beyond s h p k m in
+        let q = (λ i. isLater (ringOf (setupOf s)) o (w i) (a i)) ∙ not-later (ringOf (setupOf s)) o (zeros k) in
+        ap (λ t. not (eqb k j) && t) q ∙ and-false (not (eqb k j))
+
+    pub learnt-counts : count 8 (learnsAt s j (mailFrom + p)) ≡ learntFrom s j p
+    learnt-counts =
+        count-cong 8 (learnsAt s j (mailFrom + p)) (learns (ringOf (setupOf s)) (tablesOf s) j mail)
+        (λ k m. ap (λ (t : Taken). not (eqb k j) && t .changed) (taken-at k m))
+        ∙ count-beyond (byte s 2) 8 (learns (ringOf (setupOf s)) (tablesOf s) j mail) (few-desks s h) (λ k m n. none-beyond k m)

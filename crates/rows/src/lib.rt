@@ -7,7 +7,11 @@ ghost use Rattle.rules.specs.Model.{tick};
 ghost use Rattle.rules.specs.Replies.{rowBytes};
 ghost use Rattle.book.specs.Layout.{bookSize, records, seats, places, rowAt};
 ghost use Rattle.book.specs.Sound.{sound};
-ghost use Rattle.rows.specs.Rows.{AtDesk, Grows, isLaterAt, laterRow, withPair, grownRow, turnedRow, mergedRow};
+ghost use Rattle.tools.specs.Tests.{count};
+ghost use Rattle.ring.specs.Took.{took};
+ghost use Rattle.rows.specs.Rows.{AtDesk, Grows, takenAt, laterRow, learnsAt, withPair};
+ghost use Rattle.rows.specs.Rows.{grownRow, turnedRow, mergedRow, learntFrom};
+use ring::Taken;
 
 // The row of a record.
 pub fn row_array(book: &[u8], k: usize) -> [u8; 16]
@@ -62,55 +66,66 @@ pub fn turned_row(book: &[u8], desk: usize) -> [u8; 16]
     )
 }
 
-// Whether the mailed record's pair for a desk is later than the held one's. The desk's own phase is fetched once: both lags are behind it.
-fn is_later(book: &[u8], held: usize, mailed: usize, desk: usize) -> bool
+// What is taken for a desk of its pairs in two records. The desk's own phase is fetched once: both lags are behind it.
+fn taken_at(book: &[u8], held: usize, mailed: usize, desk: usize) -> Taken
     requires { ⌜ (length (now book) ≡ bookSize) × (sound (now book) ≡ true) ⌝ }
     requires { ⌜ (held < records) × (mailed < records) × (desk < seats) ⌝ }
-    ensures { λ r. ⌜ r ≡ isLaterAt (now (book .entry)) held mailed desk ⌝ }
+    ensures { λ r. ⌜ took r ≡ takenAt (now (book .entry)) held mailed desk ⌝ }
 {
     let own = parts::phase_at(book, desk, desk);
-    let phases = parts::phases_of(book);
-    let held_phase = parts::phase_at(book, held, desk);
-    let mailed_phase = parts::phase_at(book, mailed, desk);
-    let up = ring::lag(own, held_phase, phases);
-    let down = ring::lag(own, mailed_phase, phases);
-    let from = parts::clock_at(book, held, desk);
-    let to = parts::clock_at(book, mailed, desk);
-    ring::later_by(up, down, from, to)
+    ring::later(
+        own,
+        parts::phases_of(book),
+        parts::phase_at(book, held, desk),
+        parts::clock_at(book, held, desk),
+        parts::phase_at(book, mailed, desk),
+        parts::clock_at(book, mailed, desk),
+    )
 }
 
-fn later_of(book: &[u8], held: usize, mailed: usize, desk: usize) -> usize
-    requires { ⌜ (length (now book) ≡ bookSize) × (sound (now book) ≡ true) ⌝ }
-    requires { ⌜ (held < records) × (mailed < records) × (desk < seats) ⌝ }
-    ensures { λ r. ⌜ (r < records) × (rowAt (now (book .entry)) r desk ≡ laterRow (now (book .entry)) held mailed desk) ⌝ }
-{
-    if is_later(book, held, mailed, desk) {
-        return mailed;
-    }
-    held
+// A row merged from two, and how many pairs of other desks than the receiver changed.
+pub struct Merged {
+    pub row: [u8; 16],
+    pub learnt: u8,
 }
 
-fn later_row(book: &[u8], held: usize, mailed: usize) -> [u8; 16]
+// The row of the seat held, merged with a record that was mailed. The own pair is not counted.
+fn later_row(book: &[u8], held: usize, mailed: usize) -> Merged
     requires { ⌜ (length (now book) ≡ bookSize) × (sound (now book) ≡ true) ⌝ }
     requires { ⌜ (held < records) × (mailed < records) ⌝ }
-    ensures { λ r. ⌜ r ≡ rowBytes (laterRow (now (book .entry)) held mailed) ⌝ }
+    ensures { λ r. ⌜ (r .row ≡ rowBytes (laterRow (now (book .entry)) held mailed))
+        × (r .learnt ≡ count seats (learnsAt (now (book .entry)) held mailed)) ⌝ }
 {
     let mut row = [0u8; 16];
+    let mut learnt: u8 = 0;
     let mut desk: usize = 0;
     while desk < parts::SEATS {
-        let from = later_of(book, held, mailed, desk);
-        row[parts::phase_spot(desk)] = parts::phase_at(book, from, desk);
-        row[parts::clock_spot(desk)] = parts::clock_at(book, from, desk);
+        let taken = taken_at(book, held, mailed, desk);
+        row[parts::phase_spot(desk)] = taken.phase;
+        row[parts::clock_spot(desk)] = taken.clock;
+        learnt = tools::counted((desk != held) & taken.changed, learnt);
         desk += 1;
     }
-    row
+    Merged {
+        row: row,
+        learnt: learnt,
+    }
 }
 
-// The row of a desk after receive from a mail place: its own clock grows by 1; for every other desk, the later of the two pairs.
-pub fn merged_row(book: &[u8], desk: usize, place: usize) -> [u8; 16]
+// The row of a desk after receive from a mail place: its own clock grows by 1; for every other desk, the later of the two pairs. And
+// of how many desks it learns.
+pub fn merged_row(book: &[u8], desk: usize, place: usize) -> Merged
     requires { ⌜ Grows (now book) desk ⌝ }
     requires { ⌜ place < places ⌝ }
-    ensures { λ r. ⌜ r ≡ rowBytes (mergedRow (now (book .entry)) desk place) ⌝ }
+    ensures { λ r. ⌜ (r .row ≡ rowBytes (mergedRow (now (book .entry)) desk place))
+        × (r .learnt ≡ learntFrom (now (book .entry)) desk place) ⌝ }
 {
-    ticked(book, desk, later_row(book, desk, parts::MAIL + place))
+    let merged = later_row(book, desk, parts::MAIL + place);
+    let row = merged.row;
+    let learnt = merged.learnt;
+    let grown = ticked(book, desk, row);
+    Merged {
+        row: grown,
+        learnt: learnt,
+    }
 }

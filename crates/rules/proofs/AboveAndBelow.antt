@@ -1,4 +1,5 @@
--- Above and below each edge, worked by hand: which setups are permitted, and which number each refusal is, in literal numbers.
+-- Above and below each edge, worked by hand: which setups are permitted, which number each refusal is, and of how many desks a mail
+-- tells, in literal numbers.
 -- Assumes nothing.
 --   setup            the setup of the numbers D, P, L, M, A, m and n
 --   ends, held       not permitted below a range, permitted at both its ends, not permitted above; not permitted, then permitted
@@ -8,18 +9,20 @@
 --   X                the setup of the books; empty, a fresh book
 --   crowded          a book with no free place and no free slot, where at each desk some row lags as far as it may
 --   Numbers b ts     on the book b each call is answered by the number beside it
+--   letter p q r     mail from desk 1 to desk 0 with these pairs; lettered, a book with one in each of seven places
 --   stampAt v t      a stamp of desk 0 with the pair v.t
 --   edges            the setup numbers
 --   empty-numbers, crowded-numbers, off-numbers   the answer numbers, on books and off
+--   learnt-numbers   of how many desks each letter tells
 --   other-numbers    the number for bytes that are no book, and the number for lines of the program
 use Prim.Native.Nat.{ℕ}
 use mathlib.Core.Path.{_≡_, refl}
 use mathlib.Core.Bool.{Bool, true, false}
 use mathlib.Core.Option.{Option, none, some}
 use mathlib.Core.List.{List, [], _∷_, map}
-use Rattle.tools.specs.Tests.{allOf, within, any, lowest}
+use Rattle.tools.specs.Tests.{allOf, within, any, lowest, count}
 use Rattle.tools.specs.Tables.{put}
-use Rattle.ring.specs.Phases.{Pair}
+use Rattle.ring.specs.Phases.{Pair, laterBy}
 use Rattle.rules.specs.declared.Setup.{Setup}
 use Rattle.rules.specs.Setups.{permits, inRange, related}
 use Rattle.rules.specs.Numbers.{BadBook, BadLine, number}
@@ -156,6 +159,35 @@ pub crowded-numbers : Numbers crowded
     ∷ [])
 unfolding call step reachBack askReasons reasons done permits inRange related allOf within any lowest
 crowded-numbers = refl
+
+abbrev letter : Pair → Pair → Pair → Option Held
+letter p q r = some record { by = 1; to = 0; row = row p q r }
+
+-- desks 1 and 2 have come round to phase 0, and desk 0 knows their 4.2; of a desk 3, which is none, the last letter tells
+abbrev lettered : Book
+lettered =
+    record {
+      setup = X;
+      tables = record {
+        seat = put (put (put (λ j. idle) 0 (seat (pair 4 1) (pair 4 2) (pair 4 2)))
+            1 (seat (pair 4 1) (pair 0 2) (pair 4 0))) 2 (seat (pair 4 1) (pair 4 0) (pair 0 2));
+        mail = put (put (put (put (put (put (put (λ p. none) 0 (letter (pair 4 1) (pair 4 2) (pair 4 2)))
+            1 (letter (pair 4 3) (pair 4 2) (pair 4 2)))
+            2 (letter (pair 4 0) (pair 3 3) (pair 4 1)))
+            3 (letter (pair 4 0) (pair 0 0) (pair 4 2)))
+            4 (letter (pair 4 0) (pair 4 3) (pair 3 3)))
+            5 (letter (pair 4 0) (pair 0 1) (pair 4 3)))
+            6 (some record { by = 1; to = 0; row = put (row (pair 4 0) (pair 4 2) (pair 4 2)) 3 (pair 0 1) });
+        shelf = λ s. none;
+      };
+    }
+
+-- the pairs that are held; a later one for desk 0 itself; earlier ones; 0.0 after 4.2; a later and an earlier one; two later ones;
+-- one for no desk
+pub learnt-numbers : map (λ p. call ringOf lettered (on (receive 0 p false)) .answer .value .learnt) (0 ∷ 1 ∷ 2 ∷ 3 ∷ 4 ∷ 5 ∷ 6 ∷ [])
+    ≡ some 0 ∷ some 0 ∷ some 0 ∷ some 1 ∷ some 1 ∷ some 2 ∷ some 0 ∷ []
+unfolding call step reasons done laterBy lowest count
+learnt-numbers = refl
 
 -- off the book: two stamps; two setups that are not permitted; a record that does not read, first or second; a stamp 2 phases ahead;
 -- from a reset's, one 2 phases back, and one 3 back; from another, a reset's 2 back; a reset's and one 2 back, both ways

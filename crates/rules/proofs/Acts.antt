@@ -1,21 +1,27 @@
 -- DEMAND 2 on books without bytes: what each accepted act leaves and answers, in any arithmetic.
 -- Assumes nothing.
 use mathlib.Core.Path.{_≡_, refl, ap, sym, _∙_}
-use mathlib.Core.Bool.{Bool, true, false, _&&_, _||_}
+use mathlib.Core.Bool.{Bool, true, false, not, _&&_, _||_}
 use mathlib.Core.Option.{none, some}
-use Prim.Native.Nat.{ℕ, _+_}
+use mathlib.Core.Logic.{_⊎_, inl, inr, _↔_}
+use Prim.Native.Nat.{ℕ, _+_, _≤_, _<_}
+use native.Mathlib.Omega.{arith}
 use lib.Dec.{eqb}
 use borrow.Author.Tests.{eq-eqb, ne-eqb}
 use Rattle.tools.proofs.Tables.{put-same, put-other}
+use Rattle.tools.proofs.Tests.{eq-or-ne, count-but, count-zero, zero-count}
 use Rattle.ring.specs.Phases.{Phases, Gap, laterBy, lagGap, later}
+use Rattle.ring.proofs.Ring.{later-stays, changed-differs}
 use Rattle.rules.specs.declared.Setup.{Setup}
 use Rattle.rules.specs.declared.Relation.the-variants.{Before, After, Same, Concurrent, Crossed}
+use Rattle.rules.specs.Setups.{permits}
 use Rattle.rules.specs.Numbers.{Name}
 use Rattle.rules.specs.Model.{Row, Held, Tables, Act, local, reset, send, receive, drop, discard}
 use Rattle.rules.specs.Model.{before, compare, show, write, nothing, made, stamp, says, relates, shows, accepted, Result}
-use Rattle.rules.specs.Model.{own, freeMail, freeSlot, slotFor, grown, merged, turned, near, gapIn, sameBy, isBefore, relation, gapFrom}
+use Rattle.rules.specs.Model.{own, freeMail, freeSlot, slotFor, grown, taken, merged, learns, learnt, turned, near, gapIn, sameBy, isBefore, relation, gapFrom}
 use Rattle.rules.specs.Model.{byIn, rowIn, askTells, settle, done, step}
 use Rattle.rules.specs.Due.{Due}
+use Rattle.rules.proofs.Setups.{permitted}
 use Rattle.rules.proofs.Steps.{step-number}
 use Rattle.rules.proofs.Due.{table}
 
@@ -36,10 +42,50 @@ module _ (Z : Phases) (X : Setup) (b : Tables) where
 
   -- Receive at j: its own clock grows by 1; for every other desk, the later of the two pairs is taken.
   pub merged-own : (j : ℕ) (w : Row) → merged Z b j w j ≡ record { phase = own b j .phase; clock = own b j .clock + 1 }
-  merged-own j w = put-same (λ k. later Z (own b k .phase) (b .seat j .row k) (w k)) j _
+  merged-own j w = put-same (λ k. taken Z b j w k .pair) j _
 
-  pub merged-other : (j : ℕ) (w : Row) (k : ℕ) → (k ≡ j → ⊥) → merged Z b j w k ≡ later Z (own b k .phase) (b .seat j .row k) (w k)
-  merged-other j w k ne = put-other (λ k. later Z (own b k .phase) (b .seat j .row k) (w k)) j _ k ne
+  pub merged-other : (j : ℕ) (w : Row) (k : ℕ) → (k ≡ j → ⊥)
+      → merged Z b j w k ≡ later Z (own b k .phase) (b .seat j .row k) (w k) .pair
+  merged-other j w k ne = put-other (λ k. taken Z b j w k .pair) j _ k ne
+
+  pub learns-changed : (j : ℕ) (w : Row) (k : ℕ) → (k ≡ j → ⊥) → learns Z b j w k ≡ taken Z b j w k .changed
+  learns-changed j w k ne = ap (λ t. not t && taken Z b j w k .changed) (ne-eqb k j ne)
+
+  -- It learns of another desk exactly where the pair in the row that it leaves differs from the one before; of itself never.
+  pub learns-other : (j : ℕ) (w : Row) (k : ℕ) → (k ≡ j → ⊥)
+      → (learns Z b j w k ≡ true) ↔ (merged Z b j w k ≡ b .seat j .row k → ⊥)
+  learns-other j w k ne =
+      let d = changed-differs Z (own b k .phase) (b .seat j .row k) (w k) in
+      let e = learns-changed j w k ne in
+      let r = merged-other j w k ne in
+      (λ t q. d .0 (sym e ∙ t) (sym r ∙ q), λ f. e ∙ d .1 (λ q. f (r ∙ q)))
+
+  pub learns-own : (j : ℕ) (w : Row) → learns Z b j w j ≡ false
+  learns-own j w = ap (λ t. not t && taken Z b j w j .changed) (eq-eqb j j refl)
+
+  -- So of at most D-1 desks, and of none exactly where every other desk's pair stays.
+  pub learnt-most : (j : ℕ) (w : Row) → j < X .desks → learnt Z X b j w < X .desks
+  learnt-most j w l = count-but (X .desks) (learns Z b j w) j l (learns-own j w)
+
+  pub learnt-seven : (j : ℕ) (w : Row) → j < X .desks → permits X ≡ true → learnt Z X b j w ≤ 7
+  learnt-seven j w l e = let d = permitted X e .few in omega (arith, learnt-most j w l, d)
+
+  pub learnt-none : (j : ℕ) (w : Row)
+      → (learnt Z X b j w ≡ 0) ↔ ((k : ℕ) → k < X .desks → (k ≡ j → ⊥) → merged Z b j w k ≡ b .seat j .row k)
+  learnt-none j w = (
+    λ z k l ne. merged-other j w k ne
+        ∙ later-stays Z _ _ (w k) (sym (learns-changed j w k ne) ∙ count-zero (X .desks) (learns Z b j w) z k l),
+    λ f. zero-count (X .desks) (learns Z b j w) (λ k l. off k l f (eq-or-ne k j)),
+  )
+    where
+      off : (k : ℕ) → k < X .desks → ((k : ℕ) → k < X .desks → (k ≡ j → ⊥) → merged Z b j w k ≡ b .seat j .row k)
+          → (k ≡ j) ⊎ (k ≡ j → ⊥) → learns Z b j w k ≡ false
+      off k l f (inl q) = ap (λ i. learns Z b j w i) q ∙ learns-own j w
+      off k l f (inr ne) = go (learns Z b j w k) refl
+        where
+          go : (t : Bool) → learns Z b j w k ≡ t → t ≡ false
+          go true t = absurd (learns-other j w k ne .0 t (f k l ne))
+          go false t = refl
 
   -- Reset at j: its own phase grows by 1 and its own clock becomes 0.
   pub turned-own : (j : ℕ) → turned Z b j j ≡ record { phase = Z .next (own b j .phase); clock = 0 }
@@ -48,7 +94,8 @@ module _ (Z : Phases) (X : Setup) (b : Tables) where
   pub turned-other : (j k : ℕ) → (k ≡ j → ⊥) → turned Z b j k ≡ b .seat j .row k
   turned-other j k ne = put-other (b .seat j .row) j _ k ne
 
-  -- All four mark the seat started and answer a stamp, owner and row, and where it is kept its slot; the row stays in the seat.
+  -- All four mark the seat started and answer a stamp, owner and row, receive of how many desks it learns, and a kept event its slot;
+  -- the row stays in the seat.
   abbrev result : Act → Result
   result c = done Z X b c
 
@@ -56,24 +103,24 @@ module _ (Z : Phases) (X : Setup) (b : Tables) where
   Leaves j r c = result c .tables .seat j ≡ record { started = true; row = r }
 
   pub local-leaves : (j : ℕ) (q : Bool)
-      → (result (local j q) .answer ≡ accepted (made none j (grown b j) (slotFor b q))) × Leaves j (grown b j) (local j q)
+      → (result (local j q) .answer ≡ accepted (made none j (grown b j) none (slotFor b q))) × Leaves j (grown b j) (local j q)
   unfolding done
   local-leaves j q = (refl, let e = eq-eqb j j refl in cc)
 
   pub send-leaves : (j k : ℕ) (q : Bool)
-      → (result (send j k q) .answer ≡ accepted (made (some (freeMail b)) j (grown b j) (slotFor b q)))
+      → (result (send j k q) .answer ≡ accepted (made (some (freeMail b)) j (grown b j) none (slotFor b q)))
       × Leaves j (grown b j) (send j k q)
   unfolding done
   send-leaves j k q = (refl, let e = eq-eqb j j refl in cc)
 
   pub receive-leaves : (j p : ℕ) (q : Bool) (w : Held) → b .mail p ≡ some w
-      → (result (receive j p q) .answer ≡ accepted (made none j (merged Z b j (w .row)) (slotFor b q)))
+      → (result (receive j p q) .answer ≡ accepted (made none j (merged Z b j (w .row)) (some (learnt Z X b j (w .row))) (slotFor b q)))
       × Leaves j (merged Z b j (w .row)) (receive j p q)
   unfolding done
   receive-leaves j p q w e = rw e (refl, let e = eq-eqb j j refl in cc)
 
   pub reset-leaves : (j : ℕ) (q : Bool)
-      → (result (reset j q) .answer ≡ accepted (made none j (turned Z b j) (slotFor b q))) × Leaves j (turned Z b j) (reset j q)
+      → (result (reset j q) .answer ≡ accepted (made none j (turned Z b j) none (slotFor b q))) × Leaves j (turned Z b j) (reset j q)
   unfolding done
   reset-leaves j q = (refl, let e = eq-eqb j j refl in cc)
 

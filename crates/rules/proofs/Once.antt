@@ -4,13 +4,12 @@ use Prim.Native.Nat.{ℕ, zero, suc}
 use mathlib.Core.Path.{_≡_, refl, sym, ap, _∙_}
 use native.Mathlib.Omega.{arith}
 use borrow.Author.Tests.{ne-eqb}
-use lib.Dec.{eqb}
 use lib.ListN.{length}
 use mathlib.Core.Option.{Option, none, some}
-use Rattle.tools.specs.Tests.{pick}
 use Rattle.tools.proofs.Tables.{some-is, none-some}
 use Rattle.rules.specs.declared.Stamp.{Stamp}
 use Rattle.rules.specs.declared.Stamped.{Stamped}
+use Rattle.rules.specs.declared.Received.{Received}
 use Rattle.rules.specs.declared.Sent.{Sent}
 use Rattle.rules.specs.declared.Posted.{Posted}
 use Rattle.rules.specs.declared.Posted.the-variants as Posts
@@ -20,8 +19,9 @@ use Rattle.rules.specs.declared.Told.{Told}
 use Rattle.rules.specs.declared.Told.the-variants as Tells
 use Rattle.rules.specs.declared.Compared.{Compared}
 use Rattle.rules.specs.declared.Compared.the-variants as Compares
-use Rattle.rules.specs.Model.{Label, Value, made, Answer, refusal, accepted}
-use Rattle.rules.specs.Replies.{rowOf, slotIn, stampedSays, postedSays, toldSays, comparedSays, Beside, BesidePost}
+use Rattle.rules.specs.Model.{Label, made, Answer, refusal, accepted}
+use Rattle.rules.specs.Replies.{rowOf, slotIn, eventSays, stampedSays, receivedSays, postedSays, toldSays, comparedSays}
+use Rattle.rules.specs.Replies.{Beside, BesideLearnt, BesidePost}
 use Rattle.rules.proofs.RowBytes.{row-once}
 
 same-stamp : (a b : Answer) → a ≡ b → a .value .stamp ≡ b .value .stamp
@@ -69,43 +69,56 @@ slot-once (Keeps.In s) Keeps.No e = absurd (none-some (sym e))
 slot-once (Keeps.In s) (Keeps.In s′) e = ap Keeps.In (some-is e)
 
 -- the stamp and the slot in the answer to an event
-made-once : (x x′ : Stamp) (k k′ : Kept) (p p′ : Option ℕ) → length (x .row) ≡ 16 → length (x′ .row) ≡ 16
-    → accepted (made p (x .owner) (rowOf (x .row)) (slotIn k)) ≡ accepted (made p′ (x′ .owner) (rowOf (x′ .row)) (slotIn k′))
+made-once : (x x′ : Stamp) (l l′ : Option ℕ) (k k′ : Kept) (p p′ : Option ℕ) → length (x .row) ≡ 16 → length (x′ .row) ≡ 16
+    → accepted (made p (x .owner) (rowOf (x .row)) l (slotIn k)) ≡ accepted (made p′ (x′ .owner) (rowOf (x′ .row)) l′ (slotIn k′))
     → (x ≡ x′) × (k ≡ k′)
-made-once x x′ k k′ p p′ l l′ e =
+made-once x x′ l l′ k k′ p p′ n n′ e =
     let v = some-is (ap (λ (a : Answer). a .value .stamp) e) in
-    let o = ap (λ (l : Label). l .owner) v in
-    let q = ap (λ (l : Label). l .row) v in
-    (stamp-once x x′ l l′ o q, slot-once k k′ (ap (λ (a : Answer). a .value .slot) e))
+    let o = ap (λ (y : Label). y .owner) v in
+    let q = ap (λ (y : Label). y .row) v in
+    (stamp-once x x′ n n′ o q, slot-once k k′ (ap (λ (a : Answer). a .value .slot) e))
 
 -- local, receive and reset
-said : (n : ℕ) (v : Value) → (pick (eqb n 0) (accepted v) (refusal n)) .number ≡ n
-said zero v = refl
-said (suc n) v = rw (ne-eqb (suc n) 0 (omega arith))
+module _ (x x′ : Stamp) (l l′ : Option ℕ) (k k′ : Kept) (s : length (x .row) ≡ 16) (s′ : length (x′ .row) ≡ 16) where
+  said : (n : ℕ) (y : Stamp) (o : Option ℕ) (t : Kept) → eventSays n y o t .number ≡ n
+  unfolding eventSays
+  said zero y o t = refl
+  said (suc n) y o t = rw (ne-eqb (suc n) 0 (omega arith))
 
-abbrev Answers : ℕ → Stamp → Kept → Answer
-Answers n x k = pick (eqb n 0) (accepted (made none (x .owner) (rowOf (x .row)) (slotIn k))) (refusal n)
+  same-number : (n n′ : ℕ) → eventSays n x l k ≡ eventSays n′ x′ l′ k′ → n ≡ n′
+  same-number n n′ e = sym (said n x l k) ∙ ap (λ (a : Answer). a .number) e ∙ said n′ x′ l′ k′
+
+  event-once : (n n′ : ℕ) → eventSays n x l k ≡ eventSays n′ x′ l′ k′ → Beside n x k → Beside n′ x′ k′
+      → (n ≡ n′) × ((x ≡ x′) × (k ≡ k′)) × (n ≡ 0 → l ≡ l′)
+  unfolding eventSays
+  event-once zero zero e b b′ = (refl, made-once x x′ l l′ k k′ none none s s′ e, λ z. ap (λ (a : Answer). a .value .learnt) e)
+  event-once zero (suc n′) e b b′ = let m = same-number 0 (suc n′) e in absurd (omega arith)
+  event-once (suc n) zero e b b′ = let m = same-number (suc n) 0 e in absurd (omega arith)
+  event-once (suc n) (suc n′) e b b′ =
+      (same-number (suc n) (suc n′) e, (b .0 ∙ sym (b′ .0), b .1 ∙ sym (b′ .1)), λ z. absurd (omega arith))
 
 pub stamped-once : (r r′ : Stamped) → stampedSays r ≡ stampedSays r′
     → Beside (r .number) (r .stamp) (r .kept) → Beside (r′ .number) (r′ .stamp) (r′ .kept)
     → length (r .stamp .row) ≡ 16 → length (r′ .stamp .row) ≡ 16 → r ≡ r′
-unfolding stampedSays
-stamped-once r r′ e b b′ l l′ =
-    go (r .number) (r .stamp) (r .kept) (r′ .number) (r′ .stamp) (r′ .kept)
-    (sym (said (r .number) _) ∙ ap (λ (a : Answer). a .number) e ∙ said (r′ .number) _) e b b′ l l′
-  where
-    go : (n : ℕ) (x : Stamp) (k : Kept) (n′ : ℕ) (x′ : Stamp) (k′ : Kept) → n ≡ n′
-        → Answers n x k ≡ Answers n′ x′ k′ → Beside n x k → Beside n′ x′ k′ → length (x .row) ≡ 16 → length (x′ .row) ≡ 16
-        → _≡_ {A = Stamped} (record { number = n; stamp = x; kept = k }) (record { number = n′; stamp = x′; kept = k′ })
-    go zero x k zero x′ k′ m e b b′ l l′ =
-        let q = made-once x x′ k k′ none none l l′ e in
-        λ i. record { number = 0; stamp = q .0 i; kept = q .1 i }
-    go zero x k (suc n′) x′ k′ m e b b′ l l′ = absurd (omega arith)
-    go (suc n) x k zero x′ k′ m e b b′ l l′ = absurd (omega arith)
-    go (suc n) x k (suc n′) x′ k′ m e b b′ l l′ =
-        let q : x ≡ x′ = b .0 ∙ sym (b′ .0) in
-        let t : k ≡ k′ = b .1 ∙ sym (b′ .1) in
-        λ i. record { number = m i; stamp = q i; kept = t i }
+stamped-once r r′ e b b′ s s′ =
+    let q = event-once (r .stamp) (r′ .stamp) none none (r .kept) (r′ .kept) s s′ (r .number) (r′ .number) e b b′ in
+    λ i. record { number = q .0 i; stamp = q .1 .0 i; kept = q .1 .1 i }
+
+-- how many desks were learnt of
+learnt-once : (n n′ : ℕ) → n ≡ n′ → (l l′ : ℕ) → BesideLearnt n l → BesideLearnt n′ l′ → (n ≡ 0 → some l ≡ some l′) → l ≡ l′
+learnt-once zero n′ m l l′ c c′ f = some-is (f refl)
+learnt-once (suc n) zero m l l′ c c′ f = absurd (omega arith)
+learnt-once (suc n) (suc n′) m l l′ c c′ f = c ∙ sym c′
+
+pub received-once : (r r′ : Received) → receivedSays r ≡ receivedSays r′
+    → Beside (r .number) (r .stamp) (r .kept) → Beside (r′ .number) (r′ .stamp) (r′ .kept)
+    → BesideLearnt (r .number) (r .learnt) → BesideLearnt (r′ .number) (r′ .learnt)
+    → length (r .stamp .row) ≡ 16 → length (r′ .stamp .row) ≡ 16 → r ≡ r′
+received-once r r′ e b b′ c c′ s s′ =
+    let q =
+    event-once (r .stamp) (r′ .stamp) (some (r .learnt)) (some (r′ .learnt)) (r .kept) (r′ .kept) s s′ (r .number) (r′ .number) e b b′ in
+    let l = learnt-once (r .number) (r′ .number) (q .0) (r .learnt) (r′ .learnt) c c′ (q .2) in
+    λ i. record { number = q .0 i; stamp = q .1 .0 i; learnt = l i; kept = q .1 .1 i }
 
 -- send
 pub sent-once : (r r′ : Sent) → postedSays (r .place) (r .stamp) (r .kept) ≡ postedSays (r′ .place) (r′ .stamp) (r′ .kept)
@@ -117,7 +130,7 @@ sent-once r r′ e b b′ l l′ = go (r .place) (r .stamp) (r .kept) (r′ .pla
         → BesidePost p x k → BesidePost p′ x′ k′ → length (x .row) ≡ 16 → length (x′ .row) ≡ 16
         → _≡_ {A = Sent} (record { place = p; stamp = x; kept = k }) (record { place = p′; stamp = x′; kept = k′ })
     go (Posts.At p) x k (Posts.At p′) x′ k′ e b b′ l l′ =
-        let q = made-once x x′ k k′ (some p) (some p′) l l′ e in
+        let q = made-once x x′ none none k k′ (some p) (some p′) l l′ e in
         let m = some-is (ap (λ (a : Answer). a .value .place) e) in
         λ i. record { place = Posts.At (m i); stamp = q .0 i; kept = q .1 i }
     go (Posts.At p) x k (Posts.Refused n) x′ k′ e b b′ l l′ = let v = same-stamp _ _ e in cc

@@ -12,8 +12,8 @@
 --                    write, those that ask
 --   slotAsked q      the slot whose stamp a question hands out, none where it hands out none; slotOf c, the same of an act
 --   Value            what goes with the number 0, part by part
---   nothing          no part; the values of the calls: made, an event's place, stamp and slot; a stamp; says, yes or no; relates, a
---                    relation; shows, a row
+--   nothing          no part; the values of the calls: made, an event's place, stamp, number of desks learnt of and slot; a stamp;
+--                    says, yes or no; relates, a relation; shows, a row
 --   Answer           a number of the answer table, and the value that goes with it
 --   refusal, accepted   the answer with a number and no value; with 0 and a value
 --   Result           what an act answers, and the tables that it leaves
@@ -24,7 +24,10 @@
 --   freeMail b       the lowest free mail place, or their number where none is free; freeSlot likewise
 --   slotFor b q      the slot for the stamp of an event: the lowest free one where it is kept, q; none where it is not
 --   tick, turn       a pair after local, send or receive; after a reset
+--   taken b j w k    what desk j takes of its own pair for desk k and of that in the row w
 --   grown, merged, turned   a desk's row after local and send; after receive; after reset
+--   learns b j w k   desk j learns of the other desk k from the row w: its pair for k changes
+--   learnt b j w     of how many desks it learns
 --   reachBack X t    a difference within reach is above minus this: m, and m+1 from a reset, t
 --   near X c d       d where it is within reach from a stamp whose own clock is c; a reset's own clock is 0
 --   isOut o, gapIn o whether there is no difference within reach; the difference, 0 where there is none
@@ -38,8 +41,8 @@
 --   gap Z X b j e f  the difference from e to f at desk j by their lags, none where it is out of reach
 --   gapHeld          the same between two slots, none where one is free; gapFrom, by their numbers
 --   seated b j r     the seats with row r in j's, started
---   event b j r q p mail   an event at j that leaves row r there and, where it is kept, q, in its slot too; with its place p and the
---                    mail as given
+--   event b j r q p l mail   an event at j that leaves row r there and, where it is kept, q, in its slot too; with its place p, the
+--                    number l of desks learnt of and the mail as given
 --   filing, telling  drop and discard, which change the mail or the shelf alone; an act that changes nothing
 --   settle n b r     the result r where the number n is 0; else the refusal n, and the tables b as they were
 --   askReasons Z X b q  when which number is given to the question q, in ascending order; askTells, what an accepted one is told
@@ -52,10 +55,10 @@ use mathlib.Core.Option.{Option, none, some}
 use mathlib.Core.List.{List, [], _∷_}
 use Prim.Native.Nat.{ℕ, _+_, _*_}
 use lib.Dec.{ltb, eqb}
-use Rattle.tools.specs.Tests.{pick, any, lowest}
+use Rattle.tools.specs.Tests.{pick, any, lowest, count}
 use Rattle.tools.specs.Tables.{put, putAt}
 use Rattle.tools.specs.Reasons.{Reason, first, ifDone}
-use Rattle.ring.specs.Phases.{Phases, Pair, Gap, laterBy, lagGap, later}
+use Rattle.ring.specs.Phases.{Phases, Pair, Gap, laterBy, lagGap, Taken, later}
 use Rattle.rules.specs.declared.Setup.{Setup}
 use Rattle.rules.specs.declared.Relation.{Relation}
 use Rattle.rules.specs.declared.Relation.the-variants.{Before, After, Same, Concurrent, Crossed}
@@ -149,30 +152,40 @@ slotOf (ask q) = slotAsked q
 pub record Value : Type 0 where
   pub place : Option ℕ
   pub stamp : Option Label
+  pub learnt : Option ℕ
   pub slot : Option ℕ
   pub verdict : Option Bool
   pub relation : Option Relation
   pub row : Option Row
 
 abbrev pub nothing : Value
-nothing = record { place = none; stamp = none; slot = none; verdict = none; relation = none; row = none }
+nothing = record { place = none; stamp = none; learnt = none; slot = none; verdict = none; relation = none; row = none }
 
--- the place of a send, the stamp, and the slot of an event that is kept
-abbrev pub made : Option ℕ → ℕ → Row → Option ℕ → Value
-made p j r s =
-    record { place = p; stamp = some record { owner = j; row = r }; slot = s; verdict = none; relation = none; row = none }
+-- the place of a send, the stamp, how many desks a receive learns of, and the slot of an event that is kept
+abbrev pub made : Option ℕ → ℕ → Row → Option ℕ → Option ℕ → Value
+made p j r l s =
+    record {
+      place = p;
+      stamp = some record { owner = j; row = r };
+      learnt = l;
+      slot = s;
+      verdict = none;
+      relation = none;
+      row = none;
+    }
 
 abbrev pub stamp : ℕ → Row → Value
-stamp j r = made none j r none
+stamp j r = made none j r none none
 
 abbrev pub says : Bool → Value
-says t = record { place = none; stamp = none; slot = none; verdict = some t; relation = none; row = none }
+says t = record { place = none; stamp = none; learnt = none; slot = none; verdict = some t; relation = none; row = none }
 
 abbrev pub relates : Relation → Value
-relates w = record { place = none; stamp = none; slot = none; verdict = none; relation = some w; row = none }
+relates w =
+    record { place = none; stamp = none; learnt = none; slot = none; verdict = none; relation = some w; row = none }
 
 abbrev pub shows : Row → Value
-shows r = record { place = none; stamp = none; slot = none; verdict = none; relation = none; row = some r }
+shows r = record { place = none; stamp = none; learnt = none; slot = none; verdict = none; relation = none; row = some r }
 
 pub record Answer : Type 0 where
   pub number : ℕ
@@ -289,10 +302,10 @@ abbrev pub seated : Tables → ℕ → Row → ℕ → Seat
 seated b j r = put (b .seat) j (record { started = true; row = r })
 
 -- an event at j that leaves row r: its own row is what is kept
-abbrev pub event : Tables → ℕ → Row → Bool → Option ℕ → (ℕ → Option Held) → Result
-event b j r q p mail =
+abbrev pub event : Tables → ℕ → Row → Bool → Option ℕ → Option ℕ → (ℕ → Option Held) → Result
+event b j r q p l mail =
     record {
-      answer = accepted (made p j r (slotFor b q));
+      answer = accepted (made p j r l (slotFor b q));
       tables = record {
         seat = seated b j r;
         mail = mail;
@@ -315,8 +328,15 @@ module _ (Z : Phases) where
   abbrev pub turn : Pair → Pair
   turn q = record { phase = Z .next (q .phase); clock = 0 }
 
+  abbrev pub taken : Tables → ℕ → Row → ℕ → Taken
+  taken b j w k = later Z (own b k .phase) (b .seat j .row k) (w k)
+
   abbrev pub merged : Tables → ℕ → Row → Row
-  merged b j w = put (λ k. later Z (own b k .phase) (b .seat j .row k) (w k)) j (tick (own b j))
+  merged b j w = put (λ k. taken b j w k .pair) j (tick (own b j))
+
+  -- j's own pair grows at every receive and tells nothing
+  abbrev pub learns : Tables → ℕ → Row → ℕ → Bool
+  learns b j w k = not (eqb k j) && taken b j w k .changed
 
   abbrev pub turned : Tables → ℕ → Row
   turned b j = put (b .seat j .row) j (turn (own b j))
@@ -330,6 +350,9 @@ module _ (Z : Phases) where
   seatLags b j bound s = not (eqb s j) && eqb (Z .lag (own b j .phase) (b .seat s .row j .phase)) bound
 
 module _ (Z : Phases) (X : Setup) where
+  abbrev pub learnt : Tables → ℕ → Row → ℕ
+  learnt b j w = count (X .desks) (learns Z b j w)
+
   -- the difference at desk j between two kept rows, by their lags
   abbrev pub gap : Tables → ℕ → Row → Row → Option Gap
   gap b j e f = near X (e j .clock) (lagGap Z (own b j .phase) (e j) (f j))
@@ -399,12 +422,13 @@ module _ (Z : Phases) (X : Setup) where
   askTells b (askWrite s room) = stamp (byIn (b .shelf s)) (rowIn (b .shelf s))
 
   unfoldable pub done : Tables → Act → Result
-  done b (local j q) = event b j (grown b j) q none (b .mail)
+  done b (local j q) = event b j (grown b j) q none none (b .mail)
   done b (send j k q) =
-      event b j (grown b j) q (some (freeMail b))
+      event b j (grown b j) q (some (freeMail b)) none
       (put (b .mail) (freeMail b) (some record { by = j; to = k; row = grown b j }))
-  done b (receive j p q) = event b j (merged Z b j (rowIn (b .mail p))) q none (put (b .mail) p none)
-  done b (reset j q) = event b j (turned Z b j) q none (b .mail)
+  done b (receive j p q) =
+      let w = rowIn (b .mail p) in event b j (merged Z b j w) q none (some (learnt b j w)) (put (b .mail) p none)
+  done b (reset j q) = event b j (turned Z b j) q none none (b .mail)
   done b (drop s) = filing b (b .mail) (put (b .shelf) s none)
   done b (discard p) = filing b (put (b .mail) p none) (b .shelf)
   done b (ask q) = telling b (askTells b q)

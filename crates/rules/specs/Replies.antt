@@ -6,12 +6,15 @@
 --   rowBytes r      the bytes of a row
 --   rowOf l         the row that such bytes tell: a pair for each seat's desk, zero beyond
 --   slotIn k        the slot of an event that is kept; none where it is not
---   stampedSays     what the answer to local, receive or reset says
+--   eventSays n s l k   the answer of the number n: accepted with the stamp s, the number l of desks learnt of and the slot k, or refused
+--   stampedSays     what the answer to local or reset says
+--   receivedSays    what the answer to receive says
 --   postedSays      what the answer to send says, its stamp and whether it is kept beside it
 --   toldSays        what the answer to before says
 --   comparedSays    what the answer to compare says
 --   blank           owner 0 and sixteen zeros
 --   Beside n s k    the stamp s and the slot k beside the number n: blank and none where n is a refusal
+--   BesideLearnt n l   the number l of desks learnt of beside the number n: 0 where n is a refusal
 --   BesidePost p s k   the same beside the answer p to send
 use mathlib.Core.Path.{_≡_}
 use mathlib.Core.Bool.{true, false}
@@ -24,6 +27,7 @@ use Rattle.tools.specs.Tests.{pick}
 use Rattle.tools.specs.Lists.{byte, tab}
 use Rattle.rules.specs.declared.Stamp.{Stamp}
 use Rattle.rules.specs.declared.Stamped.{Stamped}
+use Rattle.rules.specs.declared.Received.{Received}
 use Rattle.rules.specs.declared.Posted.{Posted}
 use Rattle.rules.specs.declared.Posted.the-variants as Posts
 use Rattle.rules.specs.declared.Kept.{Kept}
@@ -56,12 +60,17 @@ abbrev pub slotIn : Kept → Option ℕ
 slotIn Keeps.No = none
 slotIn (Keeps.In s) = some s
 
-unfoldable pub stampedSays : Stamped → Answer
-stampedSays r =
-    pick (eqb (r .number) 0) (accepted (made none (r .stamp .owner) (rowOf (r .stamp .row)) (slotIn (r .kept)))) (refusal (r .number))
+unfoldable pub eventSays : ℕ → Stamp → Option ℕ → Kept → Answer
+eventSays n s l k = pick (eqb n 0) (accepted (made none (s .owner) (rowOf (s .row)) l (slotIn k))) (refusal n)
+
+abbrev pub stampedSays : Stamped → Answer
+stampedSays r = eventSays (r .number) (r .stamp) none (r .kept)
+
+abbrev pub receivedSays : Received → Answer
+receivedSays r = eventSays (r .number) (r .stamp) (some (r .learnt)) (r .kept)
 
 abbrev pub postedSays : Posted → Stamp → Kept → Answer
-postedSays (Posts.At p) s k = accepted (made (some p) (s .owner) (rowOf (s .row)) (slotIn k))
+postedSays (Posts.At p) s k = accepted (made (some p) (s .owner) (rowOf (s .row)) none (slotIn k))
 postedSays (Posts.Refused n) s k = refusal n
 
 abbrev pub toldSays : Told → Answer
@@ -79,6 +88,10 @@ blank = record { owner = 0; row = replicate rowSize 0 }
 abbrev pub Beside : ℕ → Stamp → Kept → Type 0
 Beside zero s k = Unit {0}
 Beside (suc n) s k = (s ≡ blank) × (k ≡ Keeps.No)
+
+abbrev pub BesideLearnt : ℕ → ℕ → Type 0
+BesideLearnt zero l = Unit {0}
+BesideLearnt (suc n) l = l ≡ 0
 
 abbrev pub BesidePost : Posted → Stamp → Kept → Type 0
 BesidePost (Posts.At p) s k = Unit {0}

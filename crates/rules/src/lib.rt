@@ -61,10 +61,18 @@ pub enum Kept {
     In(u8),
 }
 
-// What local, receive and reset answer: the number, and beside it the stamp and its slot, blank and none where the event is refused.
+// What local and reset answer: the number, and beside it the stamp and its slot, blank and none where the event is refused.
 pub struct Stamped {
     pub number: u8,
     pub stamp: Stamp,
+    pub kept: Kept,
+}
+
+// What receive answers: the same, and how many other desks it told of something, 0 where it is refused.
+pub struct Received {
+    pub number: u8,
+    pub stamp: Stamp,
+    pub learnt: u8,
     pub kept: Kept,
 }
 

@@ -27,14 +27,14 @@ put-sent-requires c κs =
     let d = k .before .before .before .before .before .before in
     (printable _ _ _ (d .desks-in .ensures) _ (k .send .ensures .0), room d)
 
-put-stamped-requires-2 : tie.Need-put-stamped-requires-2
-put-stamped-requires-2 c κs =
+put-received-requires : tie.Need-put-received-requires
+put-received-requires c κs =
     let k = c .before .before in
     let d = k .before .before .before .before .before .before in
     (printable _ _ _ (d .desks-in .ensures) _ (k .receive .ensures .0), room d)
 
-put-stamped-requires-3 : tie.Need-put-stamped-requires-3
-put-stamped-requires-3 c κs =
+put-stamped-requires-2 : tie.Need-put-stamped-requires-2
+put-stamped-requires-2 c κs =
     let k = c .before .before in
     let d = k .before .before .before .before .before .before in
     (printable _ _ _ (d .desks-in .ensures) _ (k .reset .ensures .0), room d)
@@ -60,14 +60,14 @@ returns-3 c =
 returns-4 : tie.Need-returns-4
 returns-4 c =
     let k = c .before .before .before .before .before in
-    printed _ _ _ _ _ (k .before .before .before .before .c4 .given .1) _ _ _ _ (k .receive .ensures .0) (k .receive .ensures .1 .1)
-    _ (k .before .before .before .before .before .before .desks-in .ensures) (c .before .before .put-stamped2 .ensures)
+    printed _ _ _ _ _ (k .before .before .before .before .c4 .given .1) _ _ _ _ (k .receive .ensures .0) (k .receive .ensures .1 .1 .1)
+    _ (k .before .before .before .before .before .before .desks-in .ensures) (c .before .before .put-received .ensures)
 
 returns-5 : tie.Need-returns-5
 returns-5 c =
     let k = c .before .before .before .before .before in
     printed _ _ _ _ _ (k .before .before .before .before .c5 .given .1) _ _ _ _ (k .reset .ensures .0) (k .reset .ensures .1 .1)
-    _ (k .before .before .before .before .before .before .desks-in .ensures) (c .before .before .put-stamped3 .ensures)
+    _ (k .before .before .before .before .before .before .desks-in .ensures) (c .before .before .put-stamped2 .ensures)
 
 returns-6 : tie.Need-returns-6
 returns-6 c =
@@ -109,8 +109,8 @@ obey-spec =
     (λ c. search needs) (λ c κs. search needs) (λ c κs. search needs)
     (λ c. search needs) (λ c κs. search needs) put-stamped-requires
     (λ c. search needs) (λ c κs. search needs) put-sent-requires
+    (λ c. search needs) (λ c κs. search needs) put-received-requires
     (λ c. search needs) (λ c κs. search needs) put-stamped-requires-2
-    (λ c. search needs) (λ c κs. search needs) put-stamped-requires-3
     (λ c. search needs) (λ c κs. search needs) (λ c κs. search needs)
     (λ c. search needs) (λ c κs. search needs) (λ c κs. search needs)
     (λ c. search needs) (λ c κs. search needs) (λ c κs. search needs)

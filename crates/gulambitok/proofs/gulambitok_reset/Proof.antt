@@ -1,10 +1,11 @@
 -- `gulambitok::gulambitok_reset` meets its contract.
 -- Assumes nothing.
 use mathlib.Core.Path.{refl}
+use mathlib.Core.Option.{none}
 use lib.ListN.{length}
 use Rattle.rules.specs.Model.{reset, done}
 use Rattle.door.specs.Door.{wished}
-use Rattle.gulambitok.proofs.Called.{event-short, stamped-fits, event-makes, first-enough, last-enough}
+use Rattle.gulambitok.proofs.Called.{event-short, event-fits, event-makes, first-enough, last-enough}
 use borrow.Author.Needs.{needs}
 use Rattle.gulambitok.proofs.gulambitok_reset.Statement.{statement}
 use Rattle.gulambitok.proofs.gulambitok_reset.Tie as tie
@@ -30,8 +31,8 @@ give-stamp-requires c κs =
     let o = e .before .slot-short in
     let x = entry (e .before) .args in (
       last-enough (o .result) _ _ (e .if1 .left),
-      stamped-fits (reset (x .desk) (wished (x .keep))) (x .book .now) (wished (x .keep)) (x .stamp .now) (x .slot .now) (o .result)
-          (o .ensures) refl (k .reset .result) (k .reset .ensures .0) (k .reset .ensures .1 .0)
+      event-fits (reset (x .desk) (wished (x .keep))) (x .book .now) (wished (x .keep)) (x .stamp .now) (x .slot .now) (o .result)
+          (o .ensures) refl (k .reset .result .number) (k .reset .result .stamp) none (k .reset .result .kept) (k .reset .ensures .0) (k .reset .ensures .1 .0)
           (first-enough (o .result) (length (x .stamp .now)) 20 (e .if1 .left)),
     )
 

@@ -5,8 +5,8 @@ use mathlib.Core.Bool.{_||_}
 use lib.Dec.{ltb}
 use lib.ListN.{length}
 use Rattle.rules.specs.Model.{send, done}
-use Rattle.door.specs.Door.{wished}
-use Rattle.gulambitok.proofs.Called.{send-short, sent-fits, send-makes, first-enough, last-enough}
+use Rattle.door.specs.Door.{wished, placeIn}
+use Rattle.gulambitok.proofs.Called.{with-byte-short, sent-fits, with-byte-makes, first-enough, last-enough}
 use borrow.Author.Needs.{needs}
 use Rattle.gulambitok.proofs.gulambitok_send.Statement.{statement}
 use Rattle.gulambitok.proofs.gulambitok_send.Tie as tie
@@ -21,8 +21,8 @@ returns c =
     let e = g .before .before in
     let o = e .before .slot-short in
     let x = entry (e .before) .args in
-    send-short (send (x .desk) (x .to) (wished (x .keep))) (x .book .now) (wished (x .keep)) (x .stamp .now) (x .slot .now)
-    (o .result) (o .ensures) (g .send-grant .result) (g .send-grant .ensures) _ (c .number-by .ensures) _ (e .if1 .taken)
+    with-byte-short (send (x .desk) (x .to) (wished (x .keep))) (x .book .now) (wished (x .keep)) (x .stamp .now) (x .slot .now)
+    (o .result) (o .ensures) (g .send-grant .result) (g .send-grant .ensures) _ (c .number-by .ensures) placeIn refl _ (e .if1 .taken)
 
 give-sent-requires : tie.Need-give-sent-requires
 unfolding done
@@ -47,8 +47,8 @@ returns-2 c =
     let e = k .before .before .before .before in
     let o = e .before .slot-short in
     let x = entry (e .before) .args in
-    send-makes (send (x .desk) (x .to) (wished (x .keep))) (x .book .now) (wished (x .keep)) (x .stamp .now) (x .slot .now)
-    (o .result) (o .ensures) _ (k .send .ensures .0) _ (k .send .ensures .1 .1) _ (k .before .before .desks-in .ensures) _ _ _ _ _
+    with-byte-makes (send (x .desk) (x .to) (wished (x .keep))) (x .book .now) (wished (x .keep)) (x .stamp .now) (x .slot .now)
+    (o .result) (o .ensures) _ (k .send .ensures .0) _ (k .send .ensures .1 .1) _ (k .before .before .desks-in .ensures) _ _ _ placeIn _ _
     (e .if1 .left) (g .give-sent .ensures)
 
 pub gulambitok-send-spec : {M : Type 1} → statement M

@@ -1,7 +1,7 @@
 -- `replies::put_stamped` meets its contract. Assumes nothing.
 use Rattle.text.specs.Put.{field}
 use Rattle.text.proofs.Writing.{then, wrote-length}
-use Rattle.rules.specs.Replies.{rowOf, slotIn, stampedSays}
+use Rattle.rules.specs.Replies.{rowOf, slotIn, eventSays}
 use Rattle.replies.proofs.Lengths.{pairs-length, slot-length}
 use Rattle.replies.proofs.Behind.{behind}
 use borrow.Author.Tests.{eq-eqb, ne-eqb}
@@ -15,14 +15,14 @@ use Rattle.replies.proofs.put_stamped.Tie as tie
 
 -- an accepted event is one of a book of at most eight desks
 few : (c : tie.Else1) → c .before .before .before .args .desks ≤ 8
-unfolding stampedSays
-few c = c .before .before .before .pre .0 (rw (stampedSays, eq-eqb _ _ (c .if1 .left)))
+unfolding eventSays
+few c = c .before .before .before .pre .0 (rw (eventSays, eq-eqb _ _ (c .if1 .left)))
 
 returns : tie.Need-returns
-unfolding stampedSays
+unfolding eventSays
 returns c =
     let t = c .before .before .before .before in
-    rw (stampedSays, ne-eqb _ _ (t .if1 .taken)) (c .before .before .put-number .ensures (t .before .before .before .args .desks))
+    rw (eventSays, ne-eqb _ _ (t .if1 .taken)) (c .before .before .put-number .ensures (t .before .before .before .args .desks))
 
 put-stamp-requires : tie.Need-put-stamp-requires
 put-stamp-requires c κs = (few (c .before .before .before .before .before .before), omega arith)
@@ -55,13 +55,13 @@ put-byte-requires c κs =
     omega (arith, room b, wrote-length (d .put-slot .ensures), slot-length (slot b))
 
 returns-2 : tie.Need-returns-2
-unfolding stampedSays
+unfolding eventSays
 returns-2 c =
     let e = c .before .before in
     let d = e .before .before .before .before in
     let b = d .before .before .before .before in
     let a = b .before .before .before .before in
-    rw (stampedSays, eq-eqb _ _ (a .before .before .before .if1 .left))
+    rw (eventSays, eq-eqb _ _ (a .before .before .before .if1 .left))
     (then (behind field (slot b) (then (a .put-three .ensures) (b .put-stamp .ensures)) (d .put-slot .ensures)) (e .put-byte .ensures))
 
 pub put-stamped-spec : {M : Type 1} → statement M

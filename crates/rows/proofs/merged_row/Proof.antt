@@ -1,17 +1,20 @@
 -- `rows::merged_row` meets its contract.
 -- Assumes nothing.
 use mathlib.Core.Path.{_∙_}
-use Rattle.rows.proofs.Rows.{merged-bytes}
+use Rattle.rows.proofs.Rows.{merged-bytes, learnt-counts}
 use borrow.Author.Needs.{needs}
 use Rattle.rows.proofs.merged_row.Statement.{statement}
 use Rattle.rows.proofs.merged_row.Tie as tie
 
 returns : tie.Need-returns
 returns c =
-    let x = c .before .before .before in
-    c .ticked .ensures
-    ∙ rw (c .before .later-row .ensures)
-    (merged-bytes (x .args .book .now) (x .args .desk) (x .pre .0 .at .eight) (x .pre .0 .at .whole) (x .args .place) (x .pre .1))
+    let l = c .before .before in
+    let x = l .before .before in
+    let at = x .pre .0 .at in (
+      c .ticked .ensures
+          ∙ rw (l .later-row .ensures .0) (merged-bytes (x .args .book .now) (x .args .desk) (at .eight) (at .whole) (x .args .place) (x .pre .1)),
+      l .later-row .ensures .1 ∙ learnt-counts (x .args .book .now) (x .args .desk) (at .eight) (at .whole) (x .args .place) (x .pre .1),
+    )
 
 pub merged-row-spec : {M : Type 1} → statement M
 merged-row-spec =
