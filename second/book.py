@@ -5,6 +5,7 @@ and hands back (number, values, book): the answer number, the values (none when
 refused) and the bytes afterwards (the book it was lent when nothing changes).
 The lent book itself is never written to. An event's last number is the wish to
 keep its stamp: 0 is no, any other is yes, and its slot is then the last value.
+Between the stamp and any slot receive says how many other desks' entries changed.
 
 Off the book, the calls take a setup and two stamp records and hand back
 (number, values).
@@ -224,9 +225,10 @@ def tick(after, desk):
     after[seat_at(desk) + 2] = 1
 
 
-def later_pair(book, desk, one, other):
-    """Later is the smaller lag, and at equal lag the larger clock."""
-    return min(one, other, key=lambda pair: (lag(book, desk, pair[0]), -pair[1]))
+def later(book, desk, held, told):
+    """The smaller lag, and at equal lag the larger clock; and whether the held pair changed."""
+    pair = min(held, told, key=lambda pair: (lag(book, desk, pair[0]), -pair[1]))
+    return pair, pair != held
 
 
 def start(book, *numbers):
@@ -322,21 +324,24 @@ def receive(book, desk, place, keep):
     if number != DONE:
         return refused(number, book)
     after = bytearray(book)
-    merge(after, book, desk, place)
+    learnt = merge(after, book, desk, place)
     tick(after, desk)
     free_place(after, place)
     slot = put_on_shelf(after, desk, keep)
-    return DONE, (stamp_of_seat(after, desk), *slot), bytes(after)
+    return DONE, (stamp_of_seat(after, desk), learnt, *slot), bytes(after)
 
 
 def merge(after, book, desk, place):
-    """Every desk but the receiver's own gets the later of the two pairs."""
+    """Every desk but the receiver's own gets the later of the two pairs; how many changed."""
+    learnt = 0
     for other in range(setup_of(book).D):
         if other != desk:
             seat = seat_at(desk) + 4 + 2 * other
             mail = place_at(place) + 4 + 2 * other
-            after[seat:seat + 2] = later_pair(
+            after[seat:seat + 2], changed = later(
                 book, other, book[seat:seat + 2], book[mail:mail + 2])
+            learnt += changed
+    return learnt
 
 
 def free_place(after, place):

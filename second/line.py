@@ -2,8 +2,9 @@
 
 Each event knows the set of all events that lead to it (and itself). A row is
 read off that set: for each desk the pair of its last event there, 0.0 if none.
-No pair is ever merged, and no lag goes round a ring. Phases come round only
-where they are printed or laid out as bytes.
+No pair is ever merged, and no lag goes round a ring. How much a receipt told is
+counted on these sets, too. Phases come round only where they are printed or
+laid out as bytes.
 """
 
 PLACES = SLOTS = 32
@@ -18,13 +19,28 @@ def permitted(D, P, L, M, A, m, n):
 
 
 class Event:
-    def __init__(self, desks, desk, turn, is_reset, pair, leading):
+    """The event before it at its desk, and the one that sent its mail, lead to it."""
+
+    def __init__(self, desks, desk, pair, before, mail, is_reset):
         self.desk = desk
-        self.turn = turn
+        self.before = before
+        self.mail = mail
         self.is_reset = is_reset
+        self.turn = before.turn + 1 if before else 0
         self.phase, self.clock = pair
-        self.past = frozenset(leading | {self})
+        self.past = frozenset((self,)).union(past_of(before), past_of(mail))
         self.pairs = last_pairs(desks, self.past)
+
+
+def past_of(event):
+    """The event's set, which is empty where there is no event."""
+    return event.past if event else frozenset()
+
+
+def learnt(receipt):
+    """How many other desks have an event behind it that the event before it had not."""
+    told = receipt.past - past_of(receipt.before)
+    return len({event.desk for event in told} - {receipt.desk})
 
 
 def last_pairs(desks, past):
@@ -75,12 +91,7 @@ class Run:
     # Events
 
     def happen(self, desk, pair, mail=None, is_reset=False):
-        before = self.last[desk]
-        leading = before.past if before else frozenset()
-        if mail:
-            leading = leading | mail.past
-        turn = before.turn + 1 if before else 0
-        event = Event(self.D, desk, turn, is_reset, pair, leading)
+        event = Event(self.D, desk, pair, self.last[desk], mail, is_reset)
         self.events.append(event)
         self.last[desk] = event
         return event
@@ -92,13 +103,13 @@ class Run:
     def no_slot(self, keep):
         return bool(keep) and None not in self.shelf
 
-    def given(self, event, keep):
-        """The event, and where it is kept the slot that it itself stands behind."""
+    def kept(self, event, keep):
+        """Where it is kept, the slot that the event itself stands behind."""
         if not keep:
-            return (event,)
+            return ()
         slot = first_free(self.shelf)
         self.shelf[slot] = event
-        return event, slot
+        return (slot,)
 
     def local(self, desk, keep):
         if desk >= self.D:
@@ -107,7 +118,8 @@ class Run:
             return 8, ()
         if self.no_slot(keep):
             return 10, ()
-        return 0, self.given(self.tick(desk), keep)
+        event = self.tick(desk)
+        return 0, (event, *self.kept(event, keep))
 
     def send(self, desk, to, keep):
         if max(desk, to) >= self.D:
@@ -123,7 +135,7 @@ class Run:
             return 10, ()
         event = self.tick(desk)
         self.mail[place] = (event, to)
-        return 0, (place, *self.given(event, keep))
+        return 0, (place, event, *self.kept(event, keep))
 
     def receive(self, desk, place, keep):
         if desk >= self.D:
@@ -138,7 +150,8 @@ class Run:
         if self.no_slot(keep):
             return 10, ()
         self.mail[place] = None
-        return 0, self.given(self.tick(desk, sent), keep)
+        event = self.tick(desk, sent)
+        return 0, (event, learnt(event), *self.kept(event, keep))
 
     def reset(self, desk, keep):
         if desk >= self.D:
@@ -155,7 +168,7 @@ class Run:
         if any(self.behind(desk, row) >= self.A for row in shelf):
             return 13, ()
         event = self.happen(desk, (self.own(desk)[0] + 1, 0), is_reset=True)
-        return 0, self.given(event, keep)
+        return 0, (event, *self.kept(event, keep))
 
     # Shelf and mail
 

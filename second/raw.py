@@ -6,10 +6,10 @@
 DRIVER is tests/raw_driver.c, linked to the library: it makes the calls that it
 is asked for. A prefix to run it by is given by --runner. `tests/raw` builds it.
 
-Sound books made at random (unreachable ones too), full shelves, bytes damaged
-at every offset, phases off the ring, wrong lengths and odd numbers. The answer
-and every byte of every lent buffer, and of the bytes on both sides of it, must
-be alike.
+Sound books made at random (unreachable ones too), full shelves, mail that tells
+of none to all, bytes damaged at every offset, phases off the ring, wrong lengths
+and odd numbers. The answer and every byte of every lent buffer, and of the bytes
+on both sides of it, must be alike.
 The first difference is printed and ends with 1.
 """
 
@@ -31,7 +31,7 @@ from second.listing import EVENTS
 # How many numbers each call takes, and the bytes its value buffers need.
 BOOK_CALLS = {
     "start": (7, ()), "local": (2, (20, 1)), "send": (3, (20, 1, 1)),
-    "receive": (3, (20, 1)), "reset": (2, (20, 1)), "drop": (1, ()),
+    "receive": (3, (20, 1, 1)), "reset": (2, (20, 1)), "drop": (1, ()),
     "discard": (1, ()), "before": (2, (1,)), "compare": (2, (1,)),
     "show": (1, (16,)), "write": (1, (20,)),
 }
@@ -46,11 +46,14 @@ WISHES = (0, 1, 2, 255, 256, 2**32, 2**64 - 1)
 UNKEPT = (("local", 0), ("local", 8), ("send", 0), ("send", 8), ("send", 9), ("receive", 0),
           ("receive", 8), ("reset", 0), ("reset", 11), ("reset", 12), ("reset", 13))
 
+# What mail tells of a desk, beside what is held of it.
+LATER, EQUAL, OLDER = -1, 0, 1
+
 RELATIONS = ("before", "after", "same", "concurrent", "crossed")
 WRONG_LENGTHS = (0, 1, 1455, 1457)
 WRONG_LABEL_LENGTHS = (0, 1, 2, 19, 21, 40)
 GUARD = 24
-DEFAULT_CALLS = 7000
+DEFAULT_CALLS = 7200
 SOUND_BOOKS = 600
 BATCH = 250
 
@@ -195,7 +198,7 @@ def random_seats(rng, setup):
     if rng.random() < 0.6:
         started = [True] * setup.D
     highest = setup.P - 1 if all(started) else setup.M
-    return started, [rng.randint(0, highest) if begun else 0 for begun in started]
+    return started, [some(rng, highest) if begun else 0 for begun in started]
 
 
 def random_seat(rng, setup, own, desk):
@@ -226,7 +229,10 @@ def random_room(rng, mark, make):
 
 
 def sound_book(rng):
-    setup = any_setup(rng)
+    return sound_book_of(rng, any_setup(rng))
+
+
+def sound_book_of(rng, setup):
     started, own = random_seats(rng, setup)
     started += [False] * (8 - setup.D)
     seats = [random_seat(rng, setup, own, desk) if begun else book.FREE
@@ -238,6 +244,45 @@ def sound_book(rng):
     if not book.sound(made):
         raise AssertionError("a sound book was meant")
     return made
+
+
+def kind_of(held, told):
+    """Of two ages less is later."""
+    return (told > held) - (told < held)
+
+
+def two_ages(rng, setup, is_own, kind):
+    """The ages of a held pair and of one in mail: the lag, and how many clock values are left."""
+    while True:
+        held = some(rng, setup.M), some(rng, setup.L - 1)
+        if is_own:
+            # So the receipt is not refused.
+            held = 0, 1 + some(rng, setup.L - 2)
+        told = held if kind == EQUAL else (some(rng, 2 * setup.M), some(rng, setup.L - 1))
+        if kind_of(held, told) == kind:
+            return held, told
+
+
+def two_rows(rng, content, desk, kinds):
+    """A desk's row and one in mail to it that is of this kind for each desk, the receiver's own too."""
+    setup, seat, mail = book.setup_of(content), bytearray(16), bytearray(16)
+    for other, kind in enumerate(kinds):
+        own = content[book.own_entry(other)]
+        for row, (lag, left) in zip((seat, mail), two_ages(rng, setup, other == desk, kind)):
+            row[2 * other:2 * other + 2] = (own - lag) % setup.P, setup.L - 1 - left
+    return seat, mail
+
+
+def told_book(rng, desk, place, kinds):
+    """A sound book with such mail for a desk that has a clock left."""
+    setup = any_setup(rng)._replace(D=len(kinds))
+    made = bytearray(sound_book_of(rng, setup))
+    seat, mail = two_rows(rng, made, desk, kinds)
+    sender = rng.choice([other for other in range(setup.D) if other != desk])
+    made[book.seat_at(desk):book.seat_at(desk + 1)] = book.SEAT_MARK + b"\1\0" + seat
+    made[book.place_at(place):book.place_at(place + 1)] = (
+        book.MAIL_MARK + bytes((sender + 1, desk + 1)) + mail)
+    return bytes(made)
 
 
 def edge_of_reach(rng, setup):
@@ -329,6 +374,10 @@ def value_buffer(rng, need):
     return Lent(rng, rng.randbytes(length))
 
 
+def buffers_of(rng, *lengths):
+    return [Lent(rng, rng.randbytes(length)) for length in lengths]
+
+
 def fitting(rng, name, given):
     """A call on a lent book, with numbers mostly sensible."""
     numbers = some_numbers(rng, name, given.content())
@@ -354,6 +403,8 @@ def trials(rng):
         yield from short_ring_trials(rng)
         yield from length_trials(rng)
         yield from shelf_trials(rng)
+        yield from told_trials(rng)
+        yield from learnt_room_trials(rng)
         yield from offset_trials(rng)
         yield from round_trials(rng)
         yield from label_trials(rng)
@@ -409,9 +460,32 @@ def shelf_trials(rng):
             content, numbers = answered(rng, name, number)
             content = shelf_with(rng, content, numbers[0], free)
             for wish, room in itertools.product(WISHES, (0, 1, 2)):
-                lengths = (*NEEDS[name][:-1], room)
                 yield name, [Lent(rng, content), *numbers, wish,
-                             *(Lent(rng, rng.randbytes(length)) for length in lengths)]
+                             *buffers_of(rng, *NEEDS[name][:-1], room)]
+
+
+def told_trials(rng):
+    """Mail that tells of none to all others, with what it says of the rest and of the receiver itself."""
+    rests = (EQUAL,), (OLDER,), (EQUAL, OLDER)
+    for D, rest, own in itertools.product((2, 5, 8), rests, (LATER, EQUAL, OLDER)):
+        for count in range(D):
+            kinds = [LATER] * count + rng.choices(rest, k=D - 1 - count)
+            rng.shuffle(kinds)
+            desk, place = rng.randrange(D), rng.randrange(32)
+            kinds.insert(desk, own)
+            content = shelf_with(rng, told_book(rng, desk, place, kinds), desk, 1)
+            yield "receive", [Lent(rng, content), desk, place, rng.choice(WISHES),
+                              *buffers_of(rng, *NEEDS["receive"])]
+
+
+def learnt_room_trials(rng):
+    """Receipts by some wishes, with no slot free and with one, and learnt buffers about their length."""
+    for number, free in itertools.product((book.DONE, book.PHASE_FULL), (0, 1)):
+        content, numbers = answered(rng, "receive", number)
+        content = shelf_with(rng, content, numbers[0], free)
+        for wish, room, slot in itertools.product((0, 1, 256), (0, 1, 2), (0, 1)):
+            yield "receive", [Lent(rng, content), *numbers, wish,
+                              *buffers_of(rng, 20, room, slot)]
 
 
 def offset_trials(rng):
@@ -549,9 +623,11 @@ def differences(asked, number, memories):
 
 
 def seen_of(asked):
-    """The call with its number, and the value where that is one byte."""
-    told = asked.number == book.DONE and NEEDS[asked.name] == (1,)
-    return asked.name, asked.number, asked.memories[-1][GUARD] if told else None
+    """The call with its number, and the value where that is one byte, or how much was learnt."""
+    is_receipt = asked.name == "receive"
+    told = asked.number == book.DONE and (is_receipt or NEEDS[asked.name] == (1,))
+    value = asked.memories[2 if is_receipt else -1]
+    return asked.name, asked.number, value[GUARD] if told else None
 
 
 def report(trial, seed, asked, wrong):

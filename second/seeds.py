@@ -271,6 +271,10 @@ class Writer:
             self.clear("drop", self.run.shelf, desk, self.run.A)
         return number
 
+    def turn_up_to(self, desk, phase):
+        while self.run.own(desk)[0] < phase:
+            self.turn(desk, self.wish())
+
     def make_room(self):
         self.say("drop", self.rng.randrange(32))
 
@@ -295,6 +299,45 @@ class Writer:
         for desk in range(self.run.D):
             self.turn(desk, self.wish())
             self.now_and_then()
+
+    def hearsay(self):
+        """What the desks heard is passed on; then comes mail that the first one sent before."""
+        desks = self.rng.sample(range(self.run.D), self.run.D)
+        self.pass_on(desks, self.say("send", desks[0], desks[-1], self.wish()))
+
+    def pass_on(self, desks, sent):
+        """Each hears of all before it, the last of all others; what was sent it is then old."""
+        for desk, to in zip(desks, desks[1:]):
+            self.tell(desk, to, self.wish())
+        self.take_sent(desks[-1], sent)
+
+    def take_sent(self, desk, sent):
+        number, values = sent
+        if number == 0:
+            self.take(desk, values[0], self.wish())
+
+    def come_round(self):
+        """On a ring of three a desk turns to 0 again, and the others hear that it is the newest."""
+        self.say("start", self.rng.choice((3, 5, 8, 8)), 3, 60, 1, self.rng.choice((1, 2)),
+                 *some_reach(self.rng, 3))
+        desks = self.rng.sample(range(self.run.D), self.run.D)
+        self.turn_up_to(desks[0], 2)
+        sent = self.say("send", desks[0], desks[-1], self.wish())
+        self.turn_up_to(desks[0], 3)
+        self.pass_on(desks, sent)
+
+    def old_mail(self):
+        """Mails to one desk wait, and the last of them is mostly taken first."""
+        to, *others = self.rng.sample(range(self.run.D), min(3, self.run.D))
+        sent = []
+        for _ in range(self.rng.randint(2, 5)):
+            desk = self.rng.choice(others)
+            sent.append(self.say("send", desk, to, self.wish()))
+            self.tell(desk, self.rng.choice((to, *others)))
+        if self.rng.random() < 0.3:
+            self.rng.shuffle(sent)
+        for one in reversed(sent):
+            self.take_sent(to, one)
 
     def now_and_then(self):
         if self.rng.random() < 0.15:
@@ -421,7 +464,8 @@ class Writer:
         self.say("start", *good_setup(self.rng))
 
 
-SCENES = ((Writer.wander, 8), (Writer.sprint, 4), (Writer.rounds, 5),
+SCENES = ((Writer.wander, 8), (Writer.sprint, 4), (Writer.rounds, 5), (Writer.hearsay, 3),
+          (Writer.come_round, 4), (Writer.old_mail, 4),
           (Writer.fill_mail, 2), (Writer.fill_shelf, 2), (Writer.fill_both, 1), (Writer.ask, 3),
           (Writer.resets, 5), (Writer.odd_numbers, 2), (Writer.bad_lines, 9),
           (Writer.bad_start, 3), (Writer.new_start, 1))

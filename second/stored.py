@@ -6,17 +6,20 @@
 No line can give 014 (BadStamp) or 015 (NoRoom): no line makes a call that
 reads a record or writes one; and no call at all gives 007 (NoEvent). "crossed"
 is reached by no line either: kept stamps in a book brought along from start
-never cross. Case 4 and case 10 are about records, so lines say only the stamp
-of case 4 and, of case 10, the same differences on the book.
+never cross. Nor is mail that says of its sender just what is held: what a desk
+heard of a send by another way, it heard with a later event of that sender.
+Case 4 and case 10 are about records, so lines say only the stamp of case 4 and,
+of case 10, the same differences on the book.
 """
 
+import collections
 import itertools
 import os
 import sys
 
 sys.path.insert(0, os.path.dirname(os.path.dirname(os.path.abspath(__file__))))
 
-from second import book, listing, seeds
+from second import book, line, listing, seeds
 
 EXAMPLE = b"""\
 start 002 003 003 001 001 001 001
@@ -32,13 +35,16 @@ EXAMPLE_ANSWERS = b"""\
 000
 000 000 000.001 000.000 000
 000 000 000 000.002 000.000
-000 001 000.002 000.001 001
+000 001 000.002 000.001 001 001
 000 before
 000 000 001.000 000.000
 011
 """
 
 X = (3, 5, 4, 2, 4, 2, 2)
+
+# With its newline.
+LONGEST_ANSWER = 80
 
 NO_LINE_GIVES = (book.NO_EVENT, book.BAD_STAMP, book.NO_ROOM)
 
@@ -71,6 +77,19 @@ class Writer(seeds.Writer):
         self.say(verb, *numbers, 1)
         self.say(verb, *numbers, 0)
 
+    def mailed(self, desk, to):
+        """The place of a mail that waits."""
+        return self.say("send", desk, to, 0)[1][0]
+
+    def learns(self, number, desk, place, keep=0):
+        """Receive mail that tells of so many other desks, counted by hand."""
+        told = self.say("receive", desk, place, keep)[1][1]
+        require(told == number, f"mail that tells of {number}: line {len(self.lines)} tells of {told}")
+
+    def hears(self, number, desk, to, keep=0):
+        """Send, and receive at once."""
+        self.learns(number, to, self.mailed(desk, to), keep)
+
     def kept_turn(self, desk):
         """Reset and keep, with a second try where something stood in the way."""
         if self.turn(desk, 1) != 0:
@@ -78,6 +97,11 @@ class Writer(seeds.Writer):
 
     def make_room(self):
         self.say("drop", 0)
+
+    def drop_all(self):
+        for slot, event in enumerate(self.run.shelf):
+            if event:
+                self.say("drop", slot)
 
     def waiting(self, desk):
         """The lowest place with mail for a desk."""
@@ -465,6 +489,56 @@ def seats_not_started_count(w):
     w.say("reset", 0, 1)
 
 
+# How much a desk learns
+
+def old_mail(w):
+    """The last of three mails tells of its sender, the others of nobody, as a ring of three comes round."""
+    for D in (2, 8):
+        w.say("start", D, 3, 40, 1, 2, 1, 2)
+        for _ in range(4):
+            first = w.mailed(0, 1)
+            w.say("reset", 0, 0)
+            second, third = w.mailed(0, 1), w.mailed(0, 1)
+            w.learns(1, 1, third, 1)
+            w.learns(0, 1, second, 0)
+            w.learns(0, 1, first, 1)
+            w.drop_all()
+            follow(w)
+
+
+def all_seven(w):
+    """Eight desks turn and pass on what they heard, desk 0 tells what came to it; then comes old mail."""
+    w.say("start", 8, 3, 40, 1, 2, 1, 2)
+    for _ in range(4):
+        late = [w.mailed(0, desk) for desk in range(1, 8)]
+        for desk in range(8):
+            w.say("reset", desk, 0)
+        # Each hears of all before it.
+        for desk, number in enumerate((1, 2, 3, 4, 5, 6, 7, 7)):
+            w.hears(number, desk, (desk + 1) % 8, desk % 2)
+        # Each hears of 0 and of all behind it.
+        for desk, number in enumerate((7, 6, 5, 4, 3, 2, 1), 1):
+            w.hears(number, 0, desk, desk % 2)
+        for desk, place in enumerate(late, 1):
+            w.learns(0, desk, place, desk % 2)
+        w.drop_all()
+
+
+def older_and_newer(w):
+    """Desk 3 hears of 0, 1 and 2, then 4 of 0 and 1, and 7 hears 4 before 3; meanwhile desk 0 turns."""
+    w.say("start", 8, 3, 40, 1, 2, 1, 2)
+    for keep in (0, 1, 1, 0):
+        for desk in (0, 1, 2):
+            w.hears(1, desk, 3)
+        w.say("reset", 0, 0)
+        for desk in (0, 1):
+            w.hears(1, desk, 4)
+        w.hears(3, 4, 7, keep)
+        w.hears(2, 3, 7, keep)
+        w.drop_all()
+        follow(w)
+
+
 # Rings
 
 def lap(w):
@@ -546,6 +620,7 @@ def clock_of_255(w):
     w.say("send", 7, 0, 0)
     w.say("receive", 0, 0, 1)
     w.say("compare", 0, 1)
+    w.say("send", 7, 0, 1)
 
 
 def clock_of_2(w):
@@ -618,8 +693,9 @@ SECTIONS = (
     no_book_yet, example, case_1_and_2, case_3_to_8, case_9, case_10,
     case_11_and_12, case_13, setups, odd_numbers, reasons_that_meet, lags_that_meet,
     bad_shapes, odd_wishes, long_lines, full_mail, full_shelf, last_slot, mail_behind,
-    shelf_behind, seats_not_started_count, rings, kept_rings, ring_of_255, clock_of_255,
-    clock_of_2, nought_after_four, one_way_out_of_reach, reset_edge, resets_apart, unended,
+    shelf_behind, seats_not_started_count, old_mail, all_seven, older_and_newer, rings,
+    kept_rings, ring_of_255, clock_of_255, clock_of_2, nought_after_four,
+    one_way_out_of_reach, reset_edge, resets_apart, unended,
 )
 
 
@@ -643,7 +719,7 @@ def expected():
 
 def require(holds, what):
     if not holds:
-        raise AssertionError(f"the stored listing lacks {what}")
+        raise AssertionError(f"the listing lacks {what}")
 
 
 def check(w, printed):
@@ -658,6 +734,8 @@ def check(w, printed):
     check_runs(w.runs)
     check_reach(w.runs)
     check_shelf(w.lines)
+    check_learnt(w.runs)
+    check_eight_desks(w.lines, listing.lines_of(printed))
 
 
 def check_runs(runs):
@@ -700,6 +778,50 @@ def about_the_shelf(lines):
             yield verb, numbers[-1], free, int(program.answer(text)[:3]), unkept
         else:
             program.answer(text)
+
+
+def check_learnt(runs):
+    """Each number among eight desks as a ring comes round; mail that is older, in all and in part."""
+    seen = [receipt for receipt in receipts(runs) if receipt.comes_round]
+    for number in range(8):
+        require(any(receipt.desks == 8 and receipt.learnt == number for receipt in seen),
+                f"mail that tells of {number} as a ring comes round")
+    require(any(receipt.older == receipt.desks - 1 for receipt in seen), "mail older in all")
+    require(any(receipt.older and receipt.equal and receipt.later for receipt in seen),
+            "mail older in part")
+
+
+Receipt = collections.namedtuple("Receipt", "desks learnt later equal older comes_round")
+
+
+def receipts(runs):
+    """How much each receipt told, and for how many others its mail had which pair beside the held one."""
+    for run, event in ((run, event) for run in runs for event in run.events if event.mail):
+        held = event.before.pairs if event.before else [(0, 0)] * run.D
+        pairs = list(zip(held, event.mail.pairs))
+        del pairs[event.desk]
+        yield Receipt(run.D, line.learnt(event), sum(told > held for held, told in pairs),
+                      sum(told == held for held, told in pairs),
+                      sum(told < held for held, told in pairs),
+                      any(comes_round(run.P, *two) for two in pairs))
+
+
+def comes_round(P, held, told):
+    """Of two phases the one that is later has the smaller byte."""
+    return (told[0] - held[0]) * (told[0] % P - held[0] % P) < 0
+
+
+def check_eight_desks(lines, printed):
+    """Each number printed, kept and not kept; the longest answers, to a kept send and a kept receipt."""
+    told = [(*listing.parse(text), answer) for text, answer in zip(lines, printed)
+            if answer.count(b".") == 8]
+    seen = {(numbers[-1], int(answer.split(b" ")[10]))
+            for verb, numbers, answer in told if verb == "receive"}
+    wanted = set(itertools.product((0, 1), range(8)))
+    require(wanted <= seen, f"the wishes and numbers learnt {wanted - seen}")
+    longest = {verb for verb, _, answer in told if len(answer) + 1 == LONGEST_ANSWER}
+    require(longest == {"send", "receive"}, f"answers of {LONGEST_ANSWER} bytes")
+    require(max(map(len, printed)) < LONGEST_ANSWER, f"answers of {LONGEST_ANSWER} bytes at most")
 
 
 def turned(run):

@@ -2,8 +2,8 @@
 
 The example and the cases of docs/RULES.md; that the reach in phases is the reach
 by resets; that a kept event without a slot is refused whole and no call answers
-NoEvent; that the fixed seeds and the stored listing find each error the desks
-would make; and that the runners report.
+NoEvent; how much mail tells; that the fixed seeds and the stored listing find
+each error the desks would make; and that the runners report.
 """
 
 import contextlib
@@ -93,9 +93,9 @@ class Cases(unittest.TestCase):
         given = bytearray(fresh())
         for own, later in ((0, 0), (4, 4)):
             given[book.own_entry(1)] = own
-            pairs = bytes((4, 3)), bytes((0, 0))
-            self.assertEqual(book.later_pair(given, 1, *pairs)[0], later)
-            self.assertEqual(book.later_pair(given, 1, *pairs[::-1])[0], later)
+            for held, told in itertools.permutations((bytes((4, 3)), bytes((0, 0)))):
+                pair = told if told[0] == later else held
+                self.assertEqual(book.later(given, 1, held, told), (pair, pair is told))
 
     def reaches_off_the_book(self, e, differences):
         """The differences from e under X, for each r in turn."""
@@ -196,7 +196,7 @@ class Keeping(unittest.TestCase):
             for free in (0, 5, 31):
                 given = without_slot(shelf_of(32), free)
                 _, values, after = getattr(book, verb)(given, *numbers, 0)
-                stamp = values[-1]
+                stamp, = (value for value in values if isinstance(value, book.Stamp))
                 kept = book.SHELF_MARK + bytes((stamp.owner + 1, 0)) + stamp.row
                 at = book.slot_at(free)
                 self.assertEqual(getattr(book, verb)(given, *numbers, 1),
@@ -210,10 +210,10 @@ class Keeping(unittest.TestCase):
 
     def test_the_mail_of_a_refused_receipt_waits(self):
         given = calls(shelf_of(32), ("receive", 2, 0, 1))[2]
-        number, (stamp,), after = calls(given, ("receive", 2, 0, 0))
-        self.assertEqual((number, stamp.row[:6]), (0, bytes((0, 0, 0, 1, 0, 1))))
+        number, (stamp, learnt), after = calls(given, ("receive", 2, 0, 0))
+        self.assertEqual((number, stamp.row[:6], learnt), (0, bytes((0, 0, 0, 1, 0, 1)), 1))
         self.assertEqual(book.receive(after, 2, 0, 1)[0], book.NO_PLACE)
-        self.assertEqual(calls(given, ("drop", 9), ("receive", 2, 0, 1))[1], (stamp, 9))
+        self.assertEqual(calls(given, ("drop", 9), ("receive", 2, 0, 1))[1], (stamp, 1, 9))
 
     def test_lags_are_those_of_the_book_as_it_was(self):
         """A kept reset may leave a row behind, but never its own."""
@@ -240,6 +240,84 @@ class Keeping(unittest.TestCase):
         listings = [stored.data(), *map(seeds.listing, range(501, 541))]
         printed = {text[:3] for data in listings for text in listing.lines_of(listing.answers(data))}
         self.assertNotIn(b"007", printed)
+
+
+# How much a desk learns, by hand and against the history.
+
+OLD_MAIL = b"""\
+start 003 003 009 001 002 001 002
+send 000 001 000
+reset 000 000
+send 000 001 000
+receive 001 001 001
+receive 001 000 000
+send 001 002 000
+receive 002 000 001
+"""
+
+OLD_MAIL_ANSWERS = b"""\
+000
+000 000 000 000.001 000.000 000.000
+000 000 001.000 000.000 000.000
+000 001 000 001.001 000.000 000.000
+000 001 001.001 000.001 000.000 001 000
+000 001 001.001 000.002 000.000 000
+000 000 001 001.001 000.003 000.000
+000 002 001.001 000.003 000.001 002 001
+"""
+
+
+def with_pair(given, record, desk, *pair):
+    """The book with another pair for a desk in the row of a record."""
+    at = record + 4 + 2 * desk
+    return given[:at] + bytes(pair) + given[at + 2:]
+
+
+class Learning(unittest.TestCase):
+    def test_the_number_stands_before_the_slot(self):
+        self.assertEqual(listing.answers(OLD_MAIL), OLD_MAIL_ANSWERS)
+
+    def test_changed_is_that_the_pair_differs(self):
+        given = with_pair(fresh(), book.seat_at(1), 1, 2, 0)
+        for held, told, changed in (((1, 1), (1, 1), False), ((1, 1), (1, 2), True),
+                                    ((1, 2), (1, 1), False), ((1, 3), (2, 0), True),
+                                    ((2, 0), (1, 3), False), ((3, 3), (0, 0), True)):
+            held, told = bytes(held), bytes(told)
+            self.assertEqual(book.later(given, 1, held, told), (told if changed else held, changed))
+
+    def test_eight_desks_pass_on_what_they_heard(self):
+        given = fresh(ROOMY._replace(D=8))
+        for desk, number in enumerate((1, 2, 3, 4, 5, 6, 7, 7, 7)):
+            desk, to = desk % 8, (desk + 1) % 8
+            _, (_, learnt), given = calls(given, ("send", desk, to, 0), ("receive", to, 0, 0))
+            self.assertEqual(learnt, number)
+
+    def test_the_own_entry_never_counts(self):
+        """Though it grows, and though mail that no run leads to may say more of it."""
+        given = calls(fresh(), ("send", 0, 1, 0))[2]
+        for told, of_itself, number in (((0, 1), (0, 0), 1), ((0, 1), (0, 3), 1),
+                                        ((0, 0), (0, 0), 0), ((0, 0), (0, 3), 0)):
+            mail = with_pair(given, book.place_at(0), 0, *told)
+            mail = with_pair(mail, book.place_at(0), 1, *of_itself)
+            row = bytes((*told, 0, 1)) + bytes(12)
+            self.assertEqual(book.receive(mail, 1, 0, 0)[1], ((1, row), number))
+
+    def test_an_entry_changes_by_events_of_its_desk(self):
+        for seed in range(1, 41):
+            for run in seeds.written(seed).runs:
+                for event in run.events:
+                    self.hold(run, event)
+
+    def hold(self, run, event):
+        """In bytes the row changes for just the desks with an event behind this one, not the one before."""
+        held, row = (run.row(one.pairs if one else ()) for one in (event.before, event))
+        told = {other.desk for other in event.past - line.past_of(event.before)}
+        self.assertEqual({at // 2 for at in range(16) if held[at] != row[at]}, told)
+        if event.mail:
+            self.assertEqual(line.learnt(event), len(told) - 1)
+
+    def test_seeds_tell_of_every_number(self):
+        stored.check_learnt([run for seed in range(1, 101) for run in seeds.written(seed).runs])
 
 
 # The reach by the resets themselves, against the reach in phases.
@@ -318,7 +396,7 @@ class Stored(unittest.TestCase):
 # The errors the desks would make, each put in place of a part of book.py.
 
 TRUE = {name: getattr(book, name) for name in
-        ("receive", "reset_number", "lag_number", "merge", "later_pair", "answer_compare",
+        ("receive", "reset_number", "lag_number", "merge", "later", "answer_compare",
          "local_number", "send_number", "put_on_shelf", "shelf_full", "says_before",
          "row_sound", "used_place_sound", "reach", "compare", "label_compare",
          "difference_on_book", "difference_off_book", "permitted", "start", "sound",
@@ -333,13 +411,13 @@ def own_above_v_subtracts(own, phase, P):
     return own - phase if own > phase else own + P - phase
 
 
-def larger_byte_is_later(given, desk, one, other):
-    return max(one, other)
+def larger_byte_is_later(given, desk, held, told):
+    return max(held, told), told > held
 
 
-def nought_is_nothing(given, desk, one, other):
-    return max(one, other) if bytes(2) in (one, other) \
-        else TRUE["later_pair"](given, desk, one, other)
+def nought_is_nothing(given, desk, held, told):
+    return larger_byte_is_later(given, desk, held, told) if bytes(2) in (held, told) \
+        else TRUE["later"](given, desk, held, told)
 
 
 def nought_is_never_seen(e, f, d):
@@ -431,15 +509,64 @@ def kept_by_the_last_byte(after, desk, keep):
 
 
 def own_phase_from_mail(after, given, desk, place):
-    TRUE["merge"](after, given, desk, place)
     after[book.own_entry(desk)] = given[book.place_at(place) + 4 + 2 * desk]
+    return TRUE["merge"](after, given, desk, place)
+
+
+def own_later(given, desk, place):
+    """Of the receiver's own pair and the one in its mail."""
+    own, mail = book.own_entry(desk), book.place_at(place) + 4 + 2 * desk
+    return TRUE["later"](given, desk, given[own:own + 2], given[mail:mail + 2])
 
 
 def own_entry_is_merged(after, given, desk, place):
+    after[book.own_entry(desk) + 1] = min(own_later(given, desk, place)[0][1], 254)
+    return TRUE["merge"](after, given, desk, place)
+
+
+def the_own_entry_counts(after, given, desk, place):
+    """It always grows."""
+    return TRUE["merge"](after, given, desk, place) + 1
+
+
+def the_own_entry_in_mail_counts(after, given, desk, place):
+    return TRUE["merge"](after, given, desk, place) + own_later(given, desk, place)[1]
+
+
+def an_equal_pair_counts(given, desk, held, told):
+    pair = TRUE["later"](given, desk, held, told)[0]
+    return pair, pair == told
+
+
+def an_older_pair_counts(given, desk, held, told):
+    return TRUE["later"](given, desk, held, told)[0], held != told
+
+
+def nought_is_no_news(given, desk, held, told):
+    pair, changed = TRUE["later"](given, desk, held, told)
+    return pair, changed and pair != bytes(2)
+
+
+def bytes_beside_the_mail_count(after, given, desk, place):
+    """Those in which mail and row differ, but for the own entry."""
     TRUE["merge"](after, given, desk, place)
-    own, mail = book.own_entry(desk), book.place_at(place) + 4 + 2 * desk
-    later = TRUE["later_pair"](given, desk, given[own:own + 2], given[mail:mail + 2])
-    after[own + 1] = min(later[1], 254)
+    rows = (book.row_at(given, at) for at in (book.seat_at(desk), book.place_at(place)))
+    return sum(one != other for at, (one, other) in enumerate(zip(*rows)) if at // 2 != desk)
+
+
+def bytes_that_change_count(after, given, desk, place):
+    TRUE["merge"](after, given, desk, place)
+    rows = (book.row_at(one, book.seat_at(desk)) for one in (given, after))
+    return sum(one != other for one, other in zip(*rows))
+
+
+def told_or_not(after, given, desk, place):
+    return min(1, TRUE["merge"](after, given, desk, place))
+
+
+def the_slot_stands_first(given, desk, place, keep):
+    number, values, after = TRUE["receive"](given, desk, place, keep)
+    return number, (*values[:1], *values[:0:-1]), after
 
 
 def unreachable_is_concurrent(e, f, d, back):
@@ -539,33 +666,58 @@ KEEPING_ERRORS = (
     ("put_on_shelf", the_highest_free_slot), ("put_on_shelf", kept_before_the_clock_grows),
 )
 
+LEARNING_ERRORS = (
+    ("merge", the_own_entry_counts), ("later", an_equal_pair_counts),
+    ("later", an_older_pair_counts), ("merge", bytes_beside_the_mail_count),
+    ("merge", bytes_that_change_count), ("merge", told_or_not), ("receive", the_slot_stands_first),
+)
+
 ERRORS = (
     ("lag_behind", lag_without_adding_P), ("lag_behind", own_above_v_subtracts),
-    ("later_pair", larger_byte_is_later), ("says_before", nought_is_never_seen),
+    ("later", larger_byte_is_later), ("says_before", nought_is_never_seen),
     ("receive", place_stays_used), ("receive", refused_receipt_frees),
     ("lag_number", only_seats_are_checked), ("merge", own_phase_from_mail),
     ("answer_compare", unreachable_is_concurrent), ("permitted", a_phase_short),
     ("compare", the_first_is_asked_both_ways),
     *(by_reach("difference_on_book", reach) for reach in REACHES),
-    *KEEPING_ERRORS,
+    *KEEPING_ERRORS, *LEARNING_ERRORS,
 )
 
-# The last seven no listing can show: they need books that no run reaches, or a number that no line has.
+# The last nine no listing can show: they need books that no run reaches, or a number that no line has.
 RAW_ERRORS = (
     ("lag_behind", lag_without_adding_P), ("lag_behind", own_above_v_subtracts),
-    ("later_pair", larger_byte_is_later), ("says_before", nought_is_never_seen),
+    ("later", larger_byte_is_later), ("says_before", nought_is_never_seen),
     ("receive", place_stays_used), ("receive", refused_receipt_frees),
-    ("lag_number", only_seats_are_checked), *KEEPING_ERRORS,
+    ("lag_number", only_seats_are_checked), *KEEPING_ERRORS, *LEARNING_ERRORS,
     ("answer_compare", unreachable_is_concurrent), ("compare", the_first_is_asked_both_ways),
     ("label_compare", the_first_label_is_asked_both_ways),
     *(by_reach("difference_on_book", reach) for reach in REACHES),
     *(by_reach("difference_off_book", reach) for reach in REACHES),
     *(a_phase_short_for(name) for name in ("start", "sound", "read_both")),
-    ("later_pair", nought_is_nothing), ("merge", own_entry_is_merged),
+    ("later", nought_is_nothing), ("later", nought_is_no_news),
+    ("merge", own_entry_is_merged), ("merge", the_own_entry_in_mail_counts),
     ("row_sound", any_filler), ("row_sound", one_more_lag),
     ("row_sound", phases_come_round), ("used_place_sound", to_oneself_is_sound),
     ("put_on_shelf", kept_by_the_last_byte),
 )
+
+
+# Errors of the count by sets of events.
+
+def all_behind_count(receipt):
+    return len({event.desk for event in receipt.past} - {receipt.desk})
+
+
+def the_receiver_counts(receipt):
+    return len({event.desk for event in receipt.past - line.past_of(receipt.before)})
+
+
+def events_count(receipt):
+    told = receipt.past - line.past_of(receipt.before)
+    return sum(event.desk != receipt.desk for event in told)
+
+
+SET_ERRORS = (all_behind_count, the_receiver_counts, events_count)
 
 
 def is_found(name, error, data, expected):
@@ -595,6 +747,10 @@ class Errors(unittest.TestCase):
                     if reach is not all_reach_like_resets]
         for name, error in (*ERRORS, *off_book):
             with mock.patch.object(book, name, error), \
+                    self.assertRaises(listing.Disagree, msg=error.__name__):
+                listing.answers(data)
+        for error in SET_ERRORS:
+            with mock.patch.object(line, "learnt", error), \
                     self.assertRaises(listing.Disagree, msg=error.__name__):
                 listing.answers(data)
 
@@ -628,7 +784,7 @@ class Runner(unittest.TestCase):
 
     def test_a_difference_is_told(self):
         _, alike, told = run_compare(
-            "book.later_pair = lambda given, desk, *pairs: max(pairs)", 1, 40)
+            "book.later = lambda given, desk, held, told: (max(held, told), told > held)", 1, 40)
         self.assertFalse(alike)
         for part in ("seed ", "line ", "second:  b'000", "program: b'000"):
             self.assertIn(part, told)
@@ -670,6 +826,20 @@ def asks_a_slot_never(batch):
         return stand_in_library()(batch)
 
 
+def asks_learnt_never(batch):
+    """A library that finds no learnt buffer too short."""
+    with mock.patch.dict(raw.NEEDS, receive=(20, 0, 1)):
+        return stand_in_library()(batch)
+
+
+def asks_learnt_where_kept(batch):
+    """A library that finds a learnt buffer too short only where the stamp is kept."""
+    needs = raw.needs
+    with mock.patch.object(raw, "needs", lambda name, numbers: needs(name, numbers)[
+            :1 if name == "receive" and numbers[-1] == 0 else None]):
+        return stand_in_library()(batch)
+
+
 def ends_early(batch):
     return stand_in_library()(batch[:-1])[0], -11
 
@@ -699,6 +869,25 @@ def told_of_shelf(trial):
     return name, unkept, free, wish, slot.length, raw.expected(name, arguments)[0]
 
 
+def ages_of(content, record):
+    """Of each pair the lag as a remainder and the clock below 0; its phase goes with them."""
+    row, own, P = book.row_at(content, record), book.own_phases(content), content[3]
+    pairs = zip(own[:content[2]], row[::2], row[1::2])
+    return [((now - phase) % P, -clock, phase) for now, phase, clock in pairs]
+
+
+def told_of_mail(trial):
+    """What a receipt learnt, the kinds of the others' pairs and of the own, and if 0 is later than P-1."""
+    (desk, place, _), (given, *_) = raw.parted(trial[1])
+    content, records = given.content(), (book.seat_at(desk), book.place_at(place))
+    pairs = list(zip(*(ages_of(content, record) for record in records)))
+    kinds = [raw.kind_of(*two) for two in pairs]
+    apart = [kind * (told[2] - held[2]) for kind, (held, told) in zip(kinds, pairs)]
+    own = kinds.pop(desk)
+    del apart[desk]
+    return raw.answer_of(*trial)[2][1], kinds, own, content[3] - 1 in apart
+
+
 class Raw(unittest.TestCase):
     @classmethod
     def setUpClass(cls):
@@ -715,6 +904,7 @@ class Raw(unittest.TestCase):
             self.assertEqual({key[1] for key in seen if key[0] == name}, numbers, name)
         for name in ("compare", "label_compare"):
             self.assertEqual({key[2] for key in seen if key[:2] == (name, 0)}, {1, 2, 3, 4, 5})
+        self.assertEqual({key[2] for key in seen if key[:2] == ("receive", 0)}, set(range(8)))
 
     def found(self, library, *parts):
         with contextlib.redirect_stdout(io.StringIO()) as told:
@@ -739,9 +929,40 @@ class Raw(unittest.TestCase):
             self.assertLessEqual({(name, 0, 1, wish, room, last if wish else book.DONE)
                                   for wish in raw.WISHES}, seen)
 
+    def test_mail_tells_of_none_to_all(self):
+        """Counted by remainders, whatever the mail says of the rest and of the receiver itself."""
+        seen = [told_of_mail(trial) for trial in raw.told_trials(random.Random(3))]
+        for learnt, kinds, _, _ in seen:
+            self.assertEqual(learnt, kinds.count(raw.LATER))
+        self.assertEqual({learnt for learnt, _, _, nought in seen if nought}, set(range(8)))
+        every = raw.LATER, raw.EQUAL, raw.OLDER
+        self.assertEqual({(learnt, own) for learnt, _, own, _ in seen},
+                         set(itertools.product(range(8), every)))
+        mixed = {frozenset(kinds) for kinds in itertools.product(every, repeat=3)}
+        self.assertEqual({(frozenset(kinds), own) for _, kinds, own, _ in seen},
+                         set(itertools.product(mixed, every)))
+
+    def test_the_learnt_buffer_beside_each_reason(self):
+        """Too short is NoRoom where nothing else refuses, kept or not; a refusal leaves every byte."""
+        seen = set()
+        for name, arguments in raw.learnt_room_trials(random.Random(3)):
+            (*_, wish), lent = raw.parted(arguments)
+            roomy, (number, memories) = raw.answer_of(name, arguments)[0], raw.expected(name, arguments)
+            seen.add((roomy, wish > 0, lent[2].length, lent[3].length, number))
+            if number != book.DONE:
+                self.assertEqual(memories, [buffer.memory for buffer in lent])
+        for wish, room, slot in itertools.product((False, True), (0, 1, 2), (0, 1)):
+            short = room == 0 or (wish and slot == 0)
+            numbers = {(0, 15 if short else 0), (8, 8)} | ({(10, 10)} if wish else set())
+            self.assertEqual({(one[0], one[4]) for one in seen if one[1:4] == (wish, room, slot)}, numbers)
+
     def test_slot_buffers_are_asked_where_it_is_kept(self):
         self.found(asks_a_slot_always, "library 15")
         self.found(asks_a_slot_never, "second answers 15")
+
+    def test_learnt_buffers_are_asked_always(self):
+        self.found(asks_learnt_never, "second answers 15")
+        self.found(asks_learnt_where_kept, "second answers 15")
 
     def test_a_bad_driver_is_told(self):
         self.found(beside, f"call {raw.BATCH} of seed 1", "buffer ")
