@@ -126,11 +126,11 @@ module _ (X : Setup) (h : Log) (c : Causal X h) (j : ℕ) (w : Kind) (r : Row) (
   down : (e f : ℕ) → Leads (logged h j w r) e f → f < h .count → Leads h e f
   down e f = carry (logged h j w r) h (h .count) old-desk old-kind caused (omega arith)
 
-  up-to : (e f : ℕ) → f < h .count → Upto h e f → Upto (logged h j w r) e f
+  pub up-to : (e f : ℕ) → f < h .count → Upto h e f → Upto (logged h j w r) e f
   up-to e f b (inl q) = inl q
   up-to e f b (inr l) = inr (up e f l b)
 
-  down-to : (e f : ℕ) → f < h .count → Upto (logged h j w r) e f → Upto h e f
+  pub down-to : (e f : ℕ) → f < h .count → Upto (logged h j w r) e f → Upto h e f
   down-to e f b (inl q) = inl q
   down-to e f b (inr l) = inr (down e f l b)
 
@@ -168,7 +168,7 @@ module _ (X : Setup) (h : Log) (c : Causal X h) (j : ℕ) (w : Kind) (r : Row) (
       go (yes q) = rw q (let z = fit .ahead e a in omega arith)
       go (no q) = let s = last-step l refl in fit .tells e (s .0) a (s .1) (s .2) (s .3) q
 
-  of-new : (e : ℕ) → e < h .count → seen X h e e ≤ key X (r (h .desk e)) → Leads (logged h j w r) e (h .count)
+  pub of-new : (e : ℕ) → e < h .count → seen X h e e ≤ key X (r (h .desk e)) → Leads (logged h j w r) e (h .count)
   of-new e a k = go (ℕ-discrete (h .desk e) j)
     where
       go : Dec (h .desk e ≡ j) → Leads (logged h j w r) e (h .count)
@@ -179,7 +179,7 @@ module _ (X : Setup) (h : Log) (c : Causal X h) (j : ℕ) (w : Kind) (r : Row) (
   no-later f b (inl q) = omega arith
   no-later f b (inr l) = let z = leads-lt (logged h j w r) caused l in omega arith
 
-  old-new : (e : ℕ) → e < h .count → Upto (logged h j w r) e (h .count) → seen X h e e ≤ key X (r (h .desk e))
+  pub old-new : (e : ℕ) → e < h .count → Upto (logged h j w r) e (h .count) → seen X h e e ≤ key X (r (h .desk e))
   old-new e a (inl q) = absurd (omega arith)
   old-new e a (inr l) = to-new e a l
 

@@ -12,6 +12,7 @@ pub mod Runs
 pub mod Resets
 pub mod Alike
 pub mod Vector
+pub mod Learnt
 pub mod Shelf
 pub mod Stamps
 pub mod Labels

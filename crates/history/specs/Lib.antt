@@ -5,5 +5,6 @@ pub mod Runs
 pub mod History
 pub mod Stamps
 pub mod Vector
+pub mod Learnt
 pub mod Contract
 pub mod Demand

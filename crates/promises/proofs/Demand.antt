@@ -1,27 +1,31 @@
 -- DEMAND 3 over bytes: any calls since an accepted start, and the same calls with phases that never come round.
 -- Assumes nothing.
 use mathlib.Core.Path.{_≡_, refl, ap, sym, _∙_}
-use mathlib.Core.Bool.{true}
+use mathlib.Core.Bool.{Bool, true}
 use mathlib.Core.List.{List, [], _∷_}
+use mathlib.Core.Option.{some}
+use mathlib.Core.Logic.{_↔_}
 use Prim.Native.Nat.{ℕ}
 use Rattle.rules.specs.declared.Setup.{Setup}
 use Rattle.rules.specs.declared.Relation.{Relation}
 use Rattle.rules.specs.declared.Relation.the-variants.{Crossed}
-use Rattle.rules.specs.Model.{before, compare, used, relates}
-use Rattle.rules.specs.Calls.{Book, Call, start, on}
-use Rattle.history.specs.History.{State, begin, next, after, logAfter, setupAfter}
+use Rattle.rules.specs.Model.{receive, before, compare, used, relates, Answer}
+use Rattle.rules.specs.Calls.{Book, Call, start, on, lineOf, call}
+use Rattle.history.specs.History.{Log, Leads, State, begin, next, after, logAfter, setupAfter}
 use Rattle.history.specs.Round.{roundBook}
 use Rattle.history.specs.Demand.{InReach, Stands, BeforeSaid, BeforeIs, CompareSaid, CompareIs}
 use Rattle.history.specs.Contract.{Meets}
+use Rattle.history.specs.Learnt.{Knew, Tells, LearntSaid}
 use Rattle.history.proofs.Shelf.{state-before, state-compare, compare-words}
 use Rattle.history.proofs.Substitute.{kept-in, meets-reach}
+use Rattle.history.proofs.Learnt.{state-learnt, state-nothing, ring-changes}
 use Rattle.book.specs.Sound.{sound}
 use Rattle.book.specs.Codec.{decode, encode}
 use Rattle.book.specs.Answers.{answerTo, bookAfter}
 use Rattle.book.proofs.Codec.{encode-decode}
 use Rattle.book.proofs.Numbers.{answer-number, refused-answer}
-use Rattle.promises.specs.Runs.{bytesAfter, answersOn, lineAnswers}
-use Rattle.promises.proofs.Together.{Together, ring-answer, same-answer, together-next, together-start, together-after}
+use Rattle.promises.specs.Runs.{bytesAfter, answersOn, lineAnswer, lineAnswers}
+use Rattle.promises.proofs.Together.{Together, ring-answer, ring-book, same-answer, together-next, together-start, together-after}
 
 answers-alike : (s : List ℕ) (t : State) → Together s t → (cs : List Call) → answersOn s cs ≡ lineAnswers t cs
 unfolding answersOn lineAnswers
@@ -98,3 +102,40 @@ module _ (s : List ℕ) (X : Setup) (started : answerTo s (start X) .number ≡ 
     -- Kept stamps in a book brought along from start are never crossed.
     pub never-crossed : answerTo bytes (on (compare i j)) .value ≡ relates Crossed → ⊥
     never-crossed e = words-stand Crossed e
+
+  -- an accepted receive, the log with it, and its event, the last one there
+  module _ (j p : ℕ) (q : Bool) (accepted : answerTo bytes (on (receive j p q)) .number ≡ 0) where
+    abbrev log : Log
+    log = next (after (begin X) cs) (on (receive j p q)) .history .log
+
+    abbrev event : ℕ
+    event = logAfter X cs .count
+
+    same : answerTo bytes (on (receive j p q)) ≡ lineAnswer (after (begin X) cs) (on (receive j p q))
+    same = same-answer bytes _ together (on (receive j p q))
+
+    on-line : call lineOf (after (begin X) cs .book) (on (receive j p q)) .answer .number ≡ 0
+    on-line = ap (λ (a : Answer). a .number) (sym same) ∙ accepted
+
+    -- It answers of how many other desks it tells: those with an event behind it that was not behind its desk's event before.
+    pub receive-learns : LearntSaid (setupAfter X cs .desks) log event (answerTo bytes (on (receive j p q)))
+    receive-learns =
+        let l = state-learnt _ (together .faithful) j p q on-line in
+        record { told = l .told; is = l .is; said = ap (λ (a : Answer). a .value .learnt) same ∙ l .said }
+
+    -- The entry of another desk changes in the receiver's seat exactly where the receive tells of that desk.
+    pub entry-changes : (k : ℕ) → (k ≡ j → ⊥)
+        → (decode (bookAfter bytes (on (receive j p q))) .tables .seat j .row k ≡ decode bytes .tables .seat j .row k → ⊥)
+        ↔ Tells log event k
+    entry-changes k ne =
+        let c = ring-changes _ (together .faithful) j p q on-line k ne in
+        let before = ap (λ (b : Book). b .tables .seat j .row k) (together .told) in
+        let left = ap (λ (b : Book). b .tables .seat j .row k) (ring-book bytes _ together (on (receive j p q))) in
+        (λ d. c .0 (λ i. d (left ∙ i ∙ sym before)), λ t i. c .1 t (sym left ∙ i ∙ before))
+
+    -- 0 exactly where the mail told nothing: all that is behind the receive was known before.
+    pub told-nothing : (answerTo bytes (on (receive j p q)) .value .learnt ≡ some 0) ↔ ((x : ℕ) → Leads log x event → Knew log event x)
+    told-nothing =
+        let n = state-nothing _ (together .faithful) j p q on-line in
+        let e = ap (λ (a : Answer). a .value .learnt) same in
+        (λ i. n .0 (sym e ∙ i), λ f. e ∙ n .1 f)

@@ -41,6 +41,9 @@ module _ (s : List ℕ) (t : State) (w : Together s t) where
   pub ring-answer : (c : Call) → answerTo s c ≡ call ringOf (roundBook (t .book)) c .answer
   ring-answer c = answer-is s c (admitted c) ∙ ap (λ b. call ringOf b c .answer) (w .told)
 
+  pub ring-book : (c : Call) → decode (bookAfter s c) ≡ call ringOf (roundBook (t .book)) c .book
+  ring-book c = after-decode s c (admitted c) ∙ ap (λ b. call ringOf b c .book) (w .told)
+
   turns : (c : Call) → turnOn s c ≡ roundTurn (t .book) (call lineOf (t .book) c)
   turns c = ap (λ b. call ringOf b c) (w .told) ∙ call-alike t (w .faithful) c
 
