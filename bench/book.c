@@ -323,10 +323,11 @@ uint8_t plain_send(uint8_t *book, size_t book_len, size_t desk, size_t to, size_
     return DONE;
 }
 
-/* The receiver's own entry is never merged: it alone counts its own events. */
-static void merge(uint8_t *book, const struct setup *s, size_t desk, const uint8_t *mail_row)
+/* How many entries changed. The receiver's own is never merged: it alone counts its own events. */
+static uint8_t merge(uint8_t *book, const struct setup *s, size_t desk, const uint8_t *mail_row)
 {
     uint8_t *row = book + seat_at(desk) + ROW_AT;
+    uint8_t changed = 0;
     for (size_t other = 0; other < s->desks; other++) {
         if (other == desk)
             continue;
@@ -337,12 +338,15 @@ static void merge(uint8_t *book, const struct setup *s, size_t desk, const uint8
             || (mail_lag == held_lag && mail_row[2 * other + 1] > row[2 * other + 1])) {
             row[2 * other] = mail_row[2 * other];
             row[2 * other + 1] = mail_row[2 * other + 1];
+            changed++;
         }
     }
+    return changed;
 }
 
 uint8_t plain_receive(uint8_t *book, size_t book_len, size_t desk, size_t place, size_t keep,
-                      uint8_t *stamp, size_t stamp_len, uint8_t *slot, size_t slot_len)
+                      uint8_t *stamp, size_t stamp_len, uint8_t *learnt, size_t learnt_len,
+                      uint8_t *slot, size_t slot_len)
 {
     struct setup s;
     if (!book_sound(book, book_len, &s))
@@ -359,10 +363,10 @@ uint8_t plain_receive(uint8_t *book, size_t book_len, size_t desk, size_t place,
     size_t free_slot = slot_for(book, keep);
     if (free_slot == SLOTS)
         return SHELF_FULL;
-    if (event_cramped(stamp_len, keep, slot_len))
+    if (event_cramped(stamp_len, keep, slot_len) || learnt_len < 1)
         return NO_ROOM;
     tick(book, desk);
-    merge(book, &s, desk, mail + ROW_AT);
+    *learnt = merge(book, &s, desk, mail + ROW_AT);
     free_record(mail);
     put_seat_stamp(book, desk, s.desks, stamp);
     if (keep)

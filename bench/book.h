@@ -29,7 +29,8 @@ uint8_t plain_send(uint8_t *book, size_t book_len, size_t desk, size_t to, size_
                    uint8_t *stamp, size_t stamp_len, uint8_t *place, size_t place_len,
                    uint8_t *slot, size_t slot_len);
 uint8_t plain_receive(uint8_t *book, size_t book_len, size_t desk, size_t place, size_t keep,
-                      uint8_t *stamp, size_t stamp_len, uint8_t *slot, size_t slot_len);
+                      uint8_t *stamp, size_t stamp_len, uint8_t *learnt, size_t learnt_len,
+                      uint8_t *slot, size_t slot_len);
 uint8_t plain_reset(uint8_t *book, size_t book_len, size_t desk, size_t keep, uint8_t *stamp,
                     size_t stamp_len, uint8_t *slot, size_t slot_len);
 uint8_t plain_drop(uint8_t *book, size_t book_len, size_t slot);

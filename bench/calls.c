@@ -20,7 +20,7 @@
 
 enum { BOOK = 1456, STAMP = 20, ROW = 16, DESKS = 8, PLACES_AND_SLOTS = 32, RESET_EVERY = 5 };
 
-static uint8_t book[BOOK], prepared[BOOK], stamp[STAMP], row[ROW], slot, value;
+static uint8_t book[BOOK], prepared[BOOK], stamp[STAMP], row[ROW], learnt, slot, value;
 static uint8_t first_label[STAMP], second_label[STAMP];
 static const uint32_t first_vector[VECTOR_DESKS] = {3, 1, 4, 1, 5, 9, 2, 6};
 static const uint32_t second_vector[VECTOR_DESKS] = {3, 1, 4, 2, 5, 9, 2, 7};
@@ -50,7 +50,7 @@ static void with_stamps(void)
 {
     fresh();
     must(CALL(send)(book, BOOK, 0, 1, 1, stamp, STAMP, &value, 1, &slot, 1));
-    must(CALL(receive)(book, BOOK, 1, 0, 1, stamp, STAMP, &slot, 1));
+    must(CALL(receive)(book, BOOK, 1, 0, 1, stamp, STAMP, &learnt, 1, &slot, 1));
 }
 
 /* Desks take turns; each is mailed by its neighbour and resets now and then, so rows hold many phases.
@@ -62,7 +62,7 @@ static void shelve(void)
         if (turn % RESET_EVERY == 0)
             must(CALL(reset)(book, BOOK, desk, 0, stamp, STAMP, NULL, 0));
         must(CALL(send)(book, BOOK, desk, next, 0, stamp, STAMP, &value, 1, NULL, 0));
-        must(CALL(receive)(book, BOOK, next, value, keep, stamp, STAMP, &slot, 1));
+        must(CALL(receive)(book, BOOK, next, value, keep, stamp, STAMP, &learnt, 1, &slot, 1));
     }
 }
 
@@ -128,12 +128,12 @@ static uint8_t send_kept(void)
 
 static uint8_t receive(void)
 {
-    return CALL(receive)(book, BOOK, 1, 0, 0, stamp, STAMP, NULL, 0);
+    return CALL(receive)(book, BOOK, 1, 0, 0, stamp, STAMP, &learnt, 1, NULL, 0);
 }
 
 static uint8_t receive_kept(void)
 {
-    return CALL(receive)(book, BOOK, 1, 0, 1, stamp, STAMP, &slot, 1);
+    return CALL(receive)(book, BOOK, 1, 0, 1, stamp, STAMP, &learnt, 1, &slot, 1);
 }
 
 static uint8_t reset(void)
@@ -253,6 +253,7 @@ static unsigned long sum_of_bytes(void)
     unsigned long sum = add_bytes(14695981039346656037ul, book, BOOK);
     sum = add_bytes(sum, stamp, STAMP);
     sum = add_bytes(sum, row, ROW);
+    sum = add_bytes(sum, &learnt, 1);
     sum = add_bytes(sum, &slot, 1);
     return add_bytes(sum, &value, 1);
 }

@@ -136,7 +136,8 @@ static uint8_t make_quiet_call(const struct call *c)
     }
 }
 
-static uint8_t make_event(const struct call *c, uint8_t *stamp, uint8_t *place, uint8_t *slot)
+static uint8_t make_event(const struct call *c, uint8_t *stamp, uint8_t *place, uint8_t *learnt,
+                          uint8_t *slot)
 {
     const size_t *n = c->number;
     switch (c->verb) {
@@ -145,7 +146,8 @@ static uint8_t make_event(const struct call *c, uint8_t *stamp, uint8_t *place, 
     case SEND:
         return plain_send(book, sizeof book, n[0], n[1], n[2], stamp, STAMP_BYTES, place, 1, slot, 1);
     case RECEIVE:
-        return plain_receive(book, sizeof book, n[0], n[1], n[2], stamp, STAMP_BYTES, slot, 1);
+        return plain_receive(book, sizeof book, n[0], n[1], n[2], stamp, STAMP_BYTES, learnt, 1,
+                             slot, 1);
     default:
         return plain_reset(book, sizeof book, n[0], n[1], stamp, STAMP_BYTES, slot, 1);
     }
@@ -153,13 +155,16 @@ static uint8_t make_event(const struct call *c, uint8_t *stamp, uint8_t *place, 
 
 static void answer_event(const struct call *c)
 {
-    uint8_t stamp[STAMP_BYTES], place, slot, answer = make_event(c, stamp, &place, &slot);
+    uint8_t stamp[STAMP_BYTES], place, learnt, slot;
+    uint8_t answer = make_event(c, stamp, &place, &learnt, &slot);
     put_number(answer);
     if (answer != DONE)
         return;
     if (c->verb == SEND)
         put_field(place);
     put_stamp_fields(stamp);
+    if (c->verb == RECEIVE)
+        put_field(learnt);
     if (wish(c))
         put_field(slot);
 }
