@@ -1,5 +1,5 @@
--- Above and below each edge, worked by hand: which setups are permitted, which number each refusal is, and of how many desks a mail
--- tells, in literal numbers.
+-- Above and below each edge, worked by hand: which setups are permitted, which number each refusal is, of how many desks a mail
+-- tells, and what pictures show, in literal numbers.
 -- Assumes nothing.
 --   setup            the setup of the numbers D, P, L, M, A, m and n
 --   ends, held       not permitted below a range, permitted at both its ends, not permitted above; not permitted, then permitted
@@ -14,6 +14,8 @@
 --   edges            the setup numbers
 --   empty-numbers, crowded-numbers, off-numbers   the answer numbers, on books and off
 --   learnt-numbers   of how many desks each letter tells
+--   taken-by j p q r a kept stamp of desk j with these pairs; shelved, a book with fourteen of them
+--   picture-answers, picture-numbers   what lists of its slots are told; by which numbers others are refused
 --   other-numbers    the number for bytes that are no book, and the number for lines of the program
 use Prim.Native.Nat.{ℕ}
 use mathlib.Core.Path.{_≡_, refl}
@@ -26,8 +28,8 @@ use Rattle.ring.specs.Phases.{Pair, laterBy}
 use Rattle.rules.specs.declared.Setup.{Setup}
 use Rattle.rules.specs.Setups.{permits, inRange, related}
 use Rattle.rules.specs.Numbers.{BadBook, BadLine, number}
-use Rattle.rules.specs.Model.{Row, Seat, Held, Label, local, reset, send, receive, drop, discard, before, compare, write}
-use Rattle.rules.specs.Model.{zeros, idle, reachBack, askReasons, reasons, done, step}
+use Rattle.rules.specs.Model.{Row, Seat, Held, Label, local, reset, send, receive, drop, discard, before, compare, picture, write}
+use Rattle.rules.specs.Model.{says, names, accepted, zeros, idle, reachBack, pictured, askReasons, reasons, askTells, done, step}
 use Rattle.rules.specs.Calls.{Book, Call, start, on, freshBook, ringOf, call}
 use Rattle.rules.specs.Labels.{beforeOff, compareOff}
 
@@ -188,6 +190,67 @@ pub learnt-numbers : map (λ p. call ringOf lettered (on (receive 0 p false)) .a
     ≡ some 0 ∷ some 0 ∷ some 0 ∷ some 1 ∷ some 1 ∷ some 2 ∷ some 0 ∷ []
 unfolding call step reasons done laterBy lowest count
 learnt-numbers = refl
+
+abbrev taken-by : ℕ → Pair → Pair → Pair → Option Held
+taken-by j p q r = some record { by = j; to = 0; row = row p q r }
+
+-- desk 0 has come round to phase 0
+abbrev shelved : Book
+shelved =
+    record {
+      setup = X;
+      tables = record {
+        seat = put (put (put (λ j. idle) 0 (seat (pair 0 2) (pair 4 3) (pair 4 0)))
+            1 (seat (pair 0 1) (pair 4 3) (pair 4 0))) 2 (seat (pair 0 1) (pair 4 2) (pair 4 3));
+        mail = λ p. none;
+        shelf = put (put (put (put (put (put (put (put (put (put (put (put (put (put (λ s. none)
+            0 (taken-by 0 (pair 4 1) (pair 4 0) (pair 4 0)))
+            1 (taken-by 1 (pair 4 1) (pair 4 1) (pair 4 0)))
+            2 (taken-by 2 (pair 4 0) (pair 4 0) (pair 4 1)))
+            3 (taken-by 0 (pair 0 1) (pair 4 0) (pair 4 0)))
+            4 (taken-by 1 (pair 0 1) (pair 4 2) (pair 4 0)))
+            5 (taken-by 2 (pair 4 0) (pair 4 2) (pair 4 2)))
+            6 (taken-by 2 (pair 0 1) (pair 4 0) (pair 4 2)))
+            7 (taken-by 0 (pair 4 1) (pair 4 3) (pair 4 0)))
+            8 (taken-by 2 (pair 0 1) (pair 4 2) (pair 4 2)))
+            9 (taken-by 0 (pair 2 1) (pair 4 0) (pair 4 0)))
+            10 (taken-by 1 (pair 3 0) (pair 4 1) (pair 4 0)))
+            11 (taken-by 2 (pair 4 0) (pair 4 0) (pair 1 1)))
+            12 (taken-by 1 (pair 2 0) (pair 4 1) (pair 4 0)))
+            31 (taken-by 2 (pair 4 0) (pair 4 0) (pair 4 1));
+      };
+    }
+
+-- desk 1 knows just desk 0's own 4.1; the newest of each; desk 1 knows 0.1 of desk 0, which is later; desk 2 does; both do; desk 2 knows
+-- more of desk 1; and of both; desk 0 knows more of desk 1; the last slot
+pub picture-answers : map (λ l. call ringOf shelved (on (picture l)) .answer)
+    ((0 ∷ 1 ∷ 2 ∷ []) ∷ (3 ∷ 4 ∷ 8 ∷ []) ∷ (0 ∷ 4 ∷ 2 ∷ []) ∷ (0 ∷ 1 ∷ 6 ∷ []) ∷ (0 ∷ 4 ∷ 6 ∷ []) ∷ (0 ∷ 1 ∷ 5 ∷ []) ∷ (0 ∷ 1 ∷ 8 ∷ [])
+    ∷ (7 ∷ 1 ∷ 2 ∷ []) ∷ (0 ∷ 1 ∷ 31 ∷ []) ∷ [])
+    ≡ map accepted (says true ∷ says true ∷ names 0 1 ∷ names 0 2 ∷ names 0 1 ∷ names 1 2 ∷ names 0 2 ∷ names 0 1 ∷ says true ∷ [])
+unfolding call step askReasons reasons done askTells pictured reachBack laterBy any lowest
+picture-answers = refl
+
+-- no slot; two; four; slots above 31 and a free one; out of reach from the first to the last alone, from the last alone, at the owner's
+-- desk though not at the place's, and of two stamps of one owner; two places exchanged; one slot twice; two stamps of one owner; the
+-- place's desk out of reach, though not the owner's
+pub picture-numbers : Numbers shelved
+    ((on (picture []), 5)
+    ∷ (on (picture (0 ∷ 1 ∷ [])), 5)
+    ∷ (on (picture (0 ∷ 1 ∷ 2 ∷ 2 ∷ [])), 5)
+    ∷ (on (picture (0 ∷ 1 ∷ 32 ∷ [])), 5)
+    ∷ (on (picture (256 ∷ 1 ∷ 2 ∷ [])), 5)
+    ∷ (on (picture (0 ∷ 1 ∷ 30 ∷ [])), 5)
+    ∷ (on (picture (9 ∷ 10 ∷ 2 ∷ [])), 16)
+    ∷ (on (picture (0 ∷ 1 ∷ 11 ∷ [])), 16)
+    ∷ (on (picture (10 ∷ 9 ∷ 2 ∷ [])), 16)
+    ∷ (on (picture (0 ∷ 9 ∷ 2 ∷ [])), 16)
+    ∷ (on (picture (1 ∷ 0 ∷ 2 ∷ [])), 18)
+    ∷ (on (picture (0 ∷ 0 ∷ 2 ∷ [])), 18)
+    ∷ (on (picture (0 ∷ 3 ∷ 2 ∷ [])), 18)
+    ∷ (on (picture (12 ∷ 2 ∷ 5 ∷ [])), 18)
+    ∷ [])
+unfolding call step askReasons reasons done askTells pictured reachBack laterBy any lowest
+picture-numbers = refl
 
 -- off the book: two stamps; two setups that are not permitted; a record that does not read, first or second; a stamp 2 phases ahead;
 -- from a reset's, one 2 phases back, and one 3 back; from another, a reset's 2 back; a reset's and one 2 back, both ways

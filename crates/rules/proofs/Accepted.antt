@@ -6,17 +6,19 @@ use mathlib.Core.Bool.{Bool, true, false, not}
 use mathlib.Core.Logic.{_⊎_, inl, inr}
 use Prim.Native.Nat.{ℕ, _+_, _*_, _≤_, _<_}
 use native.Mathlib.Omega.{arith}
-use lib.Dec.{eqb}
+use lib.Dec.{ltb, eqb}
+use lib.ListN.{length}
 use borrow.Author.Tests.{eqb-true, eqb-false, not-true}
+use Rattle.tools.specs.Tests.{pick}
 use Rattle.tools.specs.Tables.{Each}
 use Rattle.tools.proofs.Tests.{and-true-l, and-true-r, lt-or-le}
 use Rattle.tools.proofs.Tables.{some-is, none-some}
 use Rattle.ring.specs.Phases.{Phases}
 use Rattle.rules.specs.declared.Setup.{Setup}
 use Rattle.rules.specs.Numbers.{Name, number}
-use Rattle.rules.specs.Model.{Held, Tables, Question, askBefore, askCompare, askShow, askWrite, slotAsked, Act, local, reset}
-use Rattle.rules.specs.Model.{send, receive, ask, why, stamp, shows, freeMail, slotFor, byIn, rowIn, used, own, lags, seatLags}
-use Rattle.rules.specs.Model.{askTells}
+use Rattle.rules.specs.Model.{Held, Tables, Question, askBefore, askCompare, askPicture, askShow, askWrite, slotAsked, Act, local, reset}
+use Rattle.rules.specs.Model.{send, receive, ask, why, stamp, says, names, shows, freeMail, slotFor, byIn, rowIn, used, own, lags, seatLags}
+use Rattle.rules.specs.Model.{firstOdd, secondOdd, pictured, askTells}
 use Rattle.rules.specs.Frames.{LowestFree}
 use Rattle.rules.specs.Due.{at-local, at-send, at-sent, at-receive, at-reset, by-local, by-send, by-receive, of-receive}
 use Rattle.rules.specs.Due.{OfSlot, of-show, of-write, Gone, lagIn, Due, no-desk, same-desk, no-mail, no-slot, phase-full}
@@ -110,6 +112,7 @@ module _ (Z : Phases) (X : Setup) (b : Tables) where
   of-slot : (q : Question) (s : ℕ) → slotAsked q ≡ some s → OfSlot (ask q) s
   of-slot (askBefore u t) s e = absurd (none-some e)
   of-slot (askCompare u t) s e = absurd (none-some e)
+  of-slot (askPicture l) s e = absurd (none-some e)
   of-slot (askShow u) s e = subst (OfSlot (ask (askShow u))) (some-is e) of-show
   of-slot (askWrite u room) s e = subst (OfSlot (ask (askWrite u room))) (some-is e) of-write
 
@@ -123,9 +126,15 @@ module _ (Z : Phases) (X : Setup) (b : Tables) where
     row-of : (s : ℕ) → slotAsked q ≡ some s → askTells Z X b q ≡ shows (rowIn (b .shelf s)) → Hands q
     stamp-of : (s : ℕ) → slotAsked q ≡ some s → askTells Z X b q ≡ stamp (byIn (b .shelf s)) (rowIn (b .shelf s)) → Hands q
 
+  -- two desks at odds, or yes
+  plain : (t : Bool) (i k : ℕ) → (pick t (names i k) (says true) .stamp ≡ none) × (pick t (names i k) (says true) .row ≡ none)
+  plain true i k = (refl, refl)
+  plain false i k = (refl, refl)
+
   pub hands : (q : Question) → Hands q
-  unfolding askTells
+  unfolding askTells pictured
   hands (askBefore s t) = no-stamp refl refl refl
   hands (askCompare s t) = no-stamp refl refl refl
+  hands (askPicture l) = let p = plain (ltb (firstOdd Z b l) (length l)) (firstOdd Z b l) (secondOdd Z b l) in no-stamp refl (p .0) (p .1)
   hands (askShow s) = row-of s refl refl
   hands (askWrite s room) = stamp-of s refl refl

@@ -4,9 +4,11 @@ use mathlib.Core.Path.{_≡_, refl, ap, sym, _∙_}
 use mathlib.Core.Bool.{Bool, true, false, not, _&&_, _||_, false≢true}
 use mathlib.Core.Option.{Option, none, some}
 use mathlib.Core.Logic.{_⊎_, inl, inr}
+use mathlib.Core.List.{List}
 use Prim.Native.Nat.{ℕ, _+_, _*_, _≤_, _<_}
 use native.Mathlib.Omega.{arith}
 use lib.Dec.{ltb, eqb}
+use lib.ListN.{length}
 use borrow.Author.Tests.{eqb-true, eqb-false, eq-eqb, ne-eqb, ltb-true, ltb-false, lt-ltb, le-ltb, not-true}
 use Rattle.tools.specs.Tests.{pick, any}
 use Rattle.tools.specs.Reasons.{Holds, Smallest}
@@ -15,16 +17,17 @@ use Rattle.tools.proofs.Tests.{and-true-l, and-true-r, and-false, any-at, any-t
 use Rattle.ring.specs.Phases.{Phases, Gap}
 use Rattle.rules.specs.declared.Setup.{Setup}
 use Rattle.rules.specs.Numbers.{Name, NoDesk, SameDesk, NoPlace, NotYours, NoEvent, PhaseFull, MailFull, ShelfFull, SeatBehind}
-use Rattle.rules.specs.Numbers.{MailBehind, ShelfBehind, NoRoom, OutOfReach, number}
+use Rattle.rules.specs.Numbers.{MailBehind, ShelfBehind, NoRoom, OutOfReach, WrongOwner, number}
 use Rattle.rules.specs.Model.{Held, Tables, Label, Act, local, reset, send, receive, drop, discard}
-use Rattle.rules.specs.Model.{ask, askBefore, askCompare, askShow, askWrite, before, compare, step}
-use Rattle.rules.specs.Model.{refusal, used, freeSlot, toIn, own, atLimit, lags, near, isOut, gapHeld, askReasons, reasons}
+use Rattle.rules.specs.Model.{ask, askBefore, askCompare, askPicture, askShow, askWrite, before, compare, picture, step}
+use Rattle.rules.specs.Model.{refusal, used, freeSlot, byIn, toIn, own, noSlot, atLimit, lags, near, isOut, gapHeld, gapFrom}
+use Rattle.rules.specs.Model.{tooFar, chosen, ofTwo, wrongOwner, askReasons, reasons}
 use Rattle.rules.specs.Due.{at-local, at-send, at-sent, at-receive, at-reset, by-local, by-send, by-receive, of-receive}
 use Rattle.rules.specs.Due.{ToKeep, keep-local, keep-send, keep-receive, keep-reset}
-use Rattle.rules.specs.Due.{of-discard, OfSlot, of-drop, of-before, of-before′, of-compare, of-compare′, of-show, of-write, Asks}
-use Rattle.rules.specs.Due.{asks-before, asks-compare, asks-back, Gone, lagIn, Due, no-desk, same-desk, no-mail, no-slot}
+use Rattle.rules.specs.Due.{of-discard, OfSlot, of-drop, of-before, of-before′, of-compare, of-compare′, of-picture, of-show, of-write, Asks}
+use Rattle.rules.specs.Due.{asks-before, asks-compare, asks-back, asks-two, Gone, lagIn, Due, no-desk, same-desk, no-mail, no-slot}
 use Rattle.rules.specs.Due.{not-yours, phase-full, mail-full, shelf-full, seat-behind, mail-behind, shelf-behind, no-room}
-use Rattle.rules.specs.Due.{out-of-reach, DueNumber}
+use Rattle.rules.specs.Due.{other-count, out-of-reach, wrong-owner, DueNumber}
 use Rattle.rules.specs.Frames.{LowestFree}
 use Rattle.rules.specs.Setups.{permits}
 use Rattle.rules.specs.Labels.{reasonsOff, beforeOff, compareOff}
@@ -93,6 +96,22 @@ module _ (Z : Phases) (X : Setup) (b : Tables) where
       → isOut (gapHeld Z X b (b .shelf s) (b .shelf t)) ≡ true
   out-test s t e f p q g = (λ i. isOut (gapHeld Z X b (p i) (q i))) ∙ ap isOut g
 
+  -- two places of a list, one of whose stamps is out of reach from the other
+  two-far : (l : List ℕ) (i k : ℕ) → i < length l → k < length l → (i ≡ k → ⊥)
+      → isOut (gapFrom Z X b (chosen l i) (chosen l k)) ≡ true
+      → any (length l) (λ i. any (length l) (ofTwo (tooFar Z X b) l i)) ≡ true
+  two-far l i k m n ne e = go (lt-or-le i k)
+    where
+      far : (i k : ℕ) → i < length l → k < length l → i < k → tooFar Z X b (chosen l i) (chosen l k) ≡ true
+          → any (length l) (λ i. any (length l) (ofTwo (tooFar Z X b) l i)) ≡ true
+      far i k m n q t =
+          any-at (length l) (λ i. any (length l) (ofTwo (tooFar Z X b) l i)) i m
+          (any-at (length l) (ofTwo (tooFar Z X b) l i) k n (ap (λ u. u && tooFar Z X b (chosen l i) (chosen l k)) (lt-ltb i k q) ∙ t))
+
+      go : (i < k) ⊎ (k ≤ i) → any (length l) (λ i. any (length l) (ofTwo (tooFar Z X b) l i)) ≡ true
+      go (inl q) = far i k m n q (or-left _ _ e)
+      go (inr q) = far k i n m (omega arith) (or-right (isOut (gapFrom Z X b (chosen l k) (chosen l i))) _ e)
+
   is-at-limit : (j : ℕ) → atLimit X b j ≡ true → X .clocks ≤ own b j .clock + 1
   is-at-limit j t = is-least (own b j .clock + 1) (X .clocks) t
 
@@ -117,8 +136,11 @@ module _ (Z : Phases) (X : Setup) (b : Tables) where
   listed (no-slot (of-compare {s = s}) g) = inl (refl, or-left _ _ (gone-test s (b .shelf s) g))
   listed (no-slot (of-compare′ {s = s} {t = t}) g) =
       inl (refl, or-right (not (used (b .shelf s) && ltb s 32)) _ (gone-test t (b .shelf t) g))
+  listed (no-slot (of-picture {l = l} {i = i} m) g) =
+      inl (refl, or-right (not (eqb (length l) (X .desks))) _ (any-at (length l) (λ i. noSlot b (chosen l i)) i m (gone-test _ _ g)))
   listed (no-slot (of-show {s = s}) g) = inl (refl, gone-test s (b .shelf s) g)
   listed (no-slot (of-write {s = s}) g) = inl (refl, gone-test s (b .shelf s) g)
+  listed (other-count {l = l} ne) = inl (refl, or-left _ _ (ap not (ne-eqb (length l) (X .desks) ne)))
   listed (not-yours {j = j} {p = p} {w = w} e ne) = inr (inr (inl (refl, rw e (ap not (ne-eqb (w .to) j ne)))))
   listed (phase-full (by-local {j = j}) l) = inr (inl (refl, at-limit j l))
   listed (phase-full (by-send {j = j}) l) = inr (inr (inl (refl, at-limit j l)))
@@ -142,6 +164,9 @@ module _ (Z : Phases) (X : Setup) (b : Tables) where
   listed (out-of-reach (asks-compare {s = s} {t = t}) e f g) = inr (inl (refl, or-left _ _ (out-test s t _ _ e f g)))
   listed (out-of-reach (asks-back {s = s} {t = t}) e f g) =
       inr (inl (refl, or-right (isOut (gapHeld Z X b (b .shelf s) (b .shelf t))) _ (out-test t s _ _ e f g)))
+  listed (out-of-reach (asks-two {l = l} {i = i} {k = k} m n ne) e f g) = inr (inl (refl, two-far l i k m n ne (out-test _ _ _ _ e f g)))
+  listed (wrong-owner {l = l} {i = i} {e = e} m p ne) =
+      inr (inr (inl (refl, any-at (length l) (wrongOwner b l) i m (ap (λ o. not (eqb (byIn o) i)) p ∙ ap not (ne-eqb (e .by) i ne)))))
 
   -- a reason of the list that holds is due, or a smaller one is
   abbrev Down : Act → ℕ → Type 0
@@ -166,6 +191,40 @@ module _ (Z : Phases) (X : Setup) (b : Tables) where
       go : (not (used (b .shelf s) && ltb s 32) ≡ true) ⊎ (not (used (b .shelf t) && ltb t 32) ≡ true) → Down c k
       go (inl h) = due NoPlace q (no-slot os (is-gone s (b .shelf s) h))
       go (inr h) = due NoPlace q (no-slot ot (is-gone t (b .shelf t) h))
+
+  -- a list that does not name exactly D slots, or names one that is not there
+  no-list : (l : List ℕ) (k : ℕ) → 5 ≡ k
+      → (not (eqb (length l) (X .desks)) || any (length l) (λ i. noSlot b (chosen l i))) ≡ true → Down (picture l) k
+  no-list l k q h = go (either (not (eqb (length l) (X .desks))) _ h)
+    where
+      go : (not (eqb (length l) (X .desks)) ≡ true) ⊎ (any (length l) (λ i. noSlot b (chosen l i)) ≡ true) → Down (picture l) k
+      go (inl h) = due NoPlace q (other-count (eqb-false _ _ (not-true _ h)))
+      go (inr h) =
+          let s = any-true (length l) (λ i. noSlot b (chosen l i)) h in
+          due NoPlace q (no-slot (of-picture (s .1)) (is-gone _ _ (s .2)))
+
+  -- two places of a list that are out of reach
+  two-out : (l : List ℕ) (k : ℕ) → 16 ≡ k → any (length l) (λ i. any (length l) (ofTwo (tooFar Z X b) l i)) ≡ true
+      → Down (picture l) k
+  two-out l n q h =
+      let s = any-true (length l) (λ i. any (length l) (ofTwo (tooFar Z X b) l i)) h in
+      let t = any-true (length l) (ofTwo (tooFar Z X b) l (s .0)) (s .2) in
+      go (s .0) (t .0) (s .1) (t .1) (ltb-true _ _ (and-true-l _ _ (t .2)))
+      (either (isOut (gapFrom Z X b (chosen l (s .0)) (chosen l (t .0)))) _ (and-true-r (ltb (s .0) (t .0)) _ (t .2)))
+    where
+      go : (i k : ℕ) → i < length l → k < length l → i < k
+          → (isOut (gapFrom Z X b (chosen l i) (chosen l k)) ≡ true) ⊎ (isOut (gapFrom Z X b (chosen l k) (chosen l i)) ≡ true)
+          → Down (picture l) n
+      go i k m m′ lt (inl e) = out (picture l) _ _ (of-picture m) (of-picture m′) (asks-two m m′ (λ d. omega arith)) n q e
+      go i k m m′ lt (inr e) = out (picture l) _ _ (of-picture m′) (of-picture m) (asks-two m′ m (λ d. omega arith)) n q e
+
+  -- a place of a list that holds another desk's stamp
+  not-own : (l : List ℕ) (k : ℕ) → 18 ≡ k → any (length l) (wrongOwner b l) ≡ true → Down (picture l) k
+  not-own l k q h = let s = any-true (length l) (wrongOwner b l) h in go (s .0) (s .1) (b .shelf (chosen l (s .0))) refl (s .2)
+    where
+      go : (i : ℕ) → i < length l → (o : Option Held) → b .shelf (chosen l i) ≡ o → not (eqb (byIn o) i) ≡ true → Down (picture l) k
+      go i m none p t = (5, omega arith, (NoPlace, refl, no-slot (of-picture m) (inr p)))
+      go i m (some e) p t = due WrongOwner q (wrong-owner m p (eqb-false _ _ (not-true _ t)))
 
   -- an event that is not kept asks nothing of the shelf
   no-shelf : (c : Bool → Act) → ToKeep (c true) → (t : Bool) (k : ℕ) → 10 ≡ k
@@ -225,6 +284,10 @@ module _ (Z : Phases) (X : Setup) (b : Tables) where
       go (inl h) = out (compare s t) s t of-compare of-compare′ asks-compare k q h
       go (inr h) = out (compare s t) t s of-compare′ of-compare asks-back k q h
   told (ask (askCompare s t)) k (inr (inr h)) = absurd h
+  told (ask (askPicture l)) k (inl (q, h)) = no-list l k q h
+  told (ask (askPicture l)) k (inr (inl (q, h))) = two-out l k q h
+  told (ask (askPicture l)) k (inr (inr (inl (q, h)))) = not-own l k q h
+  told (ask (askPicture l)) k (inr (inr (inr h))) = absurd h
   told (ask (askShow s)) k (inl (q, h)) = due NoPlace q (no-slot of-show (is-gone s (b .shelf s) h))
   told (ask (askShow s)) k (inr h) = absurd h
   told (ask (askWrite s room)) k (inl (q, h)) = due NoPlace q (no-slot of-write (is-gone s (b .shelf s) h))
@@ -244,6 +307,7 @@ module _ (Z : Phases) (X : Setup) (b : Tables) where
   no-event same-desk e = absurd (omega arith)
   no-event (no-mail o g) e = absurd (omega arith)
   no-event (no-slot o g) e = absurd (omega arith)
+  no-event (other-count ne) e = absurd (omega arith)
   no-event (not-yours m ne) e = absurd (omega arith)
   no-event (phase-full t l) e = absurd (omega arith)
   no-event (mail-full h) e = absurd (omega arith)
@@ -253,6 +317,7 @@ module _ (Z : Phases) (X : Setup) (b : Tables) where
   no-event (shelf-behind l m q) e = absurd (omega arith)
   no-event (no-room l) e = absurd (omega arith)
   no-event (out-of-reach a m n g) e = absurd (omega arith)
+  no-event (wrong-owner m p ne) e = absurd (omega arith)
 
   act-no-event : (c : Act) → step Z X b c .answer .number ≡ number NoEvent → ⊥
   act-no-event c e = let d = table c .due 7 (omega arith) .0 e .0 in no-event (d .2) (d .1)

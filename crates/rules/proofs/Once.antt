@@ -19,8 +19,10 @@ use Rattle.rules.specs.declared.Told.{Told}
 use Rattle.rules.specs.declared.Told.the-variants as Tells
 use Rattle.rules.specs.declared.Compared.{Compared}
 use Rattle.rules.specs.declared.Compared.the-variants as Compares
-use Rattle.rules.specs.Model.{Label, made, Answer, refusal, accepted}
-use Rattle.rules.specs.Replies.{rowOf, slotIn, eventSays, stampedSays, receivedSays, postedSays, toldSays, comparedSays}
+use Rattle.rules.specs.declared.Pictured.{Pictured}
+use Rattle.rules.specs.declared.Pictured.the-variants as Pictures
+use Rattle.rules.specs.Model.{Label, made, names, Answer, refusal, accepted}
+use Rattle.rules.specs.Replies.{rowOf, slotIn, eventSays, stampedSays, receivedSays, postedSays, toldSays, comparedSays, picturedSays}
 use Rattle.rules.specs.Replies.{Beside, BesideLearnt, BesidePost}
 use Rattle.rules.proofs.RowBytes.{row-once}
 
@@ -55,6 +57,23 @@ compared-once (Compares.Is x) (Compares.Is x′) e = let v = same-relation _ _ e
 compared-once (Compares.Is x) (Compares.Refused n) e = let v = same-relation _ _ e in cc
 compared-once (Compares.Refused n) (Compares.Is x) e = let v = same-relation _ _ e in cc
 compared-once (Compares.Refused n) (Compares.Refused n′) e = let n = number-once _ _ e in cc
+
+-- picture
+odd-once : (i k i′ k′ : ℕ) → accepted (names i k) ≡ accepted (names i′ k′) → Pictures.Odds i k ≡ Pictures.Odds i′ k′
+odd-once i k i′ k′ e =
+    let o = some-is (ap (λ (a : Answer). a .value .odds) e) in
+    λ x. Pictures.Odds (o x .lower) (o x .higher)
+
+pub pictured-once : (r r′ : Pictured) → picturedSays r ≡ picturedSays r′ → r ≡ r′
+pictured-once Pictures.Yes Pictures.Yes e = refl
+pictured-once Pictures.Yes (Pictures.Odds i k) e = let v = same-verdict _ _ e in cc
+pictured-once Pictures.Yes (Pictures.Refused n) e = let v = same-verdict _ _ e in cc
+pictured-once (Pictures.Odds i k) Pictures.Yes e = let v = same-verdict _ _ e in cc
+pictured-once (Pictures.Odds i k) (Pictures.Odds i′ k′) e = odd-once i k i′ k′ e
+pictured-once (Pictures.Odds i k) (Pictures.Refused n) e = absurd (none-some (sym (ap (λ (a : Answer). a .value .odds) e)))
+pictured-once (Pictures.Refused n) Pictures.Yes e = let v = same-verdict _ _ e in cc
+pictured-once (Pictures.Refused n) (Pictures.Odds i k) e = absurd (none-some (ap (λ (a : Answer). a .value .odds) e))
+pictured-once (Pictures.Refused n) (Pictures.Refused n′) e = let n = number-once _ _ e in cc
 
 -- a stamp, of sixteen row bytes
 stamp-once : (x x′ : Stamp) → length (x .row) ≡ 16 → length (x′ .row) ≡ 16 → x .owner ≡ x′ .owner → rowOf (x .row) ≡ rowOf (x′ .row)

@@ -11,7 +11,7 @@ use native.Mathlib.Omega.{arith}
 use Rattle.ring.specs.Phases.{Phases}
 use Rattle.rules.specs.declared.Setup.{Setup}
 use Rattle.rules.specs.Numbers.{BadBook, number}
-use Rattle.rules.specs.Model.{Tables, Question, askBefore, askCompare, askShow, askWrite, Act, local, reset, send, receive, drop, discard, ask, Value}
+use Rattle.rules.specs.Model.{Tables, Question, askBefore, askCompare, askPicture, askShow, askWrite, Act, local, reset, send, receive, drop, discard, ask, Value}
 use Rattle.rules.specs.Model.{refusal, isOut, askReasons, reasons, step}
 use Rattle.rules.specs.Calls.{reasonsOf, Book, Call, start, on, Turn, settled, turnOf, call}
 use Rattle.rules.specs.Model.{Label}
@@ -23,6 +23,7 @@ module _ (Z : Phases) (X : Setup) (b : Tables) where
   unfolding askReasons
   ask-rising (askBefore s t) = refl
   ask-rising (askCompare s t) = refl
+  ask-rising (askPicture l) = refl
   ask-rising (askShow s) = refl
   ask-rising (askWrite s room) = refl
 

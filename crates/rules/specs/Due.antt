@@ -14,6 +14,8 @@ use mathlib.Core.Path.{_≡_}
 use mathlib.Core.Bool.{Bool, true}
 use mathlib.Core.Option.{Option, none, some}
 use mathlib.Core.Logic.{_⊎_}
+use mathlib.Core.List.{List}
+use lib.ListN.{length}
 use Prim.Native.Nat.{ℕ, _+_, _*_, _≤_, _<_}
 use Rattle.ring.specs.Phases.{Phases}
 use Rattle.rules.specs.declared.Setup.{Setup}
@@ -31,10 +33,11 @@ use Rattle.rules.specs.Numbers.{
   ShelfBehind,
   NoRoom,
   OutOfReach,
+  WrongOwner,
   number,
 }
 use Rattle.rules.specs.Model.{Held, Tables, Act, local, reset, send, receive, drop, discard}
-use Rattle.rules.specs.Model.{before, compare, show, write, used, own, near}
+use Rattle.rules.specs.Model.{before, compare, picture, show, write, used, own, near, chosen}
 
 pub data AtDesk : Act → ℕ → Type 0 where
   at-local : {j : ℕ} {q : Bool} → AtDesk (local j q) j
@@ -64,6 +67,7 @@ pub data OfSlot : Act → ℕ → Type 0 where
   of-before′ : {s t : ℕ} → OfSlot (before s t) t
   of-compare : {s t : ℕ} → OfSlot (compare s t) s
   of-compare′ : {s t : ℕ} → OfSlot (compare s t) t
+  of-picture : {l : List ℕ} {i : ℕ} → i < length l → OfSlot (picture l) (chosen l i)
   of-show : {s : ℕ} → OfSlot (show s) s
   of-write : {s room : ℕ} → OfSlot (write s room) s
 
@@ -71,6 +75,7 @@ pub data Asks : Act → ℕ → ℕ → Type 0 where
   asks-before : {s t : ℕ} → Asks (before s t) s t
   asks-compare : {s t : ℕ} → Asks (compare s t) s t
   asks-back : {s t : ℕ} → Asks (compare s t) t s
+  asks-two : {l : List ℕ} {i k : ℕ} → i < length l → k < length l → (i ≡ k → ⊥) → Asks (picture l) (chosen l i) (chosen l k)
 
 abbrev pub Gone : ℕ → Option Held → Type 0
 Gone p o = (32 ≤ p) ⊎ (o ≡ none)
@@ -86,6 +91,8 @@ pub data Due (Z : Phases) (X : Setup) (b : Tables) : Act → Name → Type 0 whe
   -- place or slot above 31, or free
   no-mail : {c : Act} {p : ℕ} → OfMail c p → Gone p (b .mail p) → Due Z X b c NoPlace
   no-slot : {c : Act} {s : ℕ} → OfSlot c s → Gone s (b .shelf s) → Due Z X b c NoPlace
+  -- picture of a list that does not name exactly D slots
+  other-count : {l : List ℕ} → (length l ≡ X .desks → ⊥) → Due Z X b (picture l) NoPlace
   -- mail addressed to another desk
   not-yours : {j p : ℕ} {q : Bool} {w : Held} → b .mail p ≡ some w → (w .to ≡ j → ⊥) → Due Z X b (receive j p q) NotYours
   -- local, send or receive at own clock L-1
@@ -109,6 +116,9 @@ pub data Due (Z : Phases) (X : Setup) (b : Tables) : Act → Name → Type 0 whe
   out-of-reach : {c : Act} {s t : ℕ} {e f : Held} → Asks c s t → b .shelf s ≡ some e → b .shelf t ≡ some f
       → near X (e .row (e .by) .clock) (record { up = lagIn Z b (e .by) e; down = lagIn Z b (e .by) f }) ≡ none
       → Due Z X b c OutOfReach
+  -- picture where the slot given for a desk holds another desk's stamp
+  wrong-owner : {l : List ℕ} {i : ℕ} {e : Held} → i < length l → b .shelf (chosen l i) ≡ some e → (e .by ≡ i → ⊥)
+      → Due Z X b (picture l) WrongOwner
 
 abbrev pub DueNumber : Phases → Setup → Tables → Act → ℕ → Type 0
 DueNumber Z X b c n = (w : Name) × (number w ≡ n) × Due Z X b c w

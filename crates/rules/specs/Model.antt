@@ -8,12 +8,13 @@
 --   Tables           the seats, the mail places and the shelf slots
 --   Label            a stamp: its owner and its row
 --   Question         a call that asks about the stamps on the shelf; it changes nothing
---   Act              a call on a book that is already there; the four events with whether their stamp is kept; before, compare, show,
---                    write, those that ask
+--   Act              a call on a book that is already there; the four events with whether their stamp is kept; before, compare,
+--                    picture, show, write, those that ask
 --   slotAsked q      the slot whose stamp a question hands out, none where it hands out none; slotOf c, the same of an act
+--   Odds             two desks at odds, the lower one and the higher one
 --   Value            what goes with the number 0, part by part
 --   nothing          no part; the values of the calls: made, an event's place, stamp, number of desks learnt of and slot; a stamp;
---                    says, yes or no; relates, a relation; shows, a row
+--                    says, yes or no; relates, a relation; names, two desks at odds; shows, a row
 --   Answer           a number of the answer table, and the value that goes with it
 --   refusal, accepted   the answer with a number and no value; with 0 and a value
 --   Result           what an act answers, and the tables that it leaves
@@ -40,6 +41,15 @@
 --   lags, seatLags   what is held, the seat of another desk, lags just so far at desk j
 --   gap Z X b j e f  the difference from e to f at desk j by their lags, none where it is out of reach
 --   gapHeld          the same between two slots, none where one is free; gapFrom, by their numbers
+--   tooFar Z X b s t   of the stamps in the slots s and t either is out of reach from the other
+--   knowsMore Z b s t  the stamp in slot t knows of a later event at the desk of the stamp in slot s than that stamp itself
+--   atOdds Z b s t   either of the two knows more of the other's desk
+--   chosen l i       the slot that the list l has for desk i
+--   ofTwo p l i k    the desk i is below k, and p holds of the slots that the list l has for them
+--   firstOdd Z b l   the lowest desk that is at odds with a higher one, by the slots of the list l; their number where none is
+--   secondOdd Z b l  the lowest desk above it that it is at odds with
+--   pictured Z b l   yes where no two desks are at odds, else those two
+--   wrongOwner b l i the slot that the list l has for desk i holds another desk's stamp
 --   seated b j r     the seats with row r in j's, started
 --   event b j r q p l mail   an event at j that leaves row r there and, where it is kept, q, in its slot too; with its place p, the
 --                    number l of desks learnt of and the mail as given
@@ -53,12 +63,14 @@
 use mathlib.Core.Bool.{Bool, true, false, not, _&&_, _||_}
 use mathlib.Core.Option.{Option, none, some}
 use mathlib.Core.List.{List, [], _∷_}
+use lib.ListN.{length}
 use Prim.Native.Nat.{ℕ, _+_, _*_}
 use lib.Dec.{ltb, eqb}
 use Rattle.tools.specs.Tests.{pick, any, lowest, count}
+use Rattle.tools.specs.Lists.{byte}
 use Rattle.tools.specs.Tables.{put, putAt}
 use Rattle.tools.specs.Reasons.{Reason, first, ifDone}
-use Rattle.ring.specs.Phases.{Phases, Pair, Gap, laterBy, lagGap, Taken, later}
+use Rattle.ring.specs.Phases.{Phases, Pair, Gap, laterBy, lagGap, isLater, Taken, later}
 use Rattle.rules.specs.declared.Setup.{Setup}
 use Rattle.rules.specs.declared.Relation.{Relation}
 use Rattle.rules.specs.declared.Relation.the-variants.{Before, After, Same, Concurrent, Crossed}
@@ -75,6 +87,7 @@ use Rattle.rules.specs.Numbers.{
   ShelfBehind,
   NoRoom,
   OutOfReach,
+  WrongOwner,
   given,
 }
 
@@ -109,9 +122,10 @@ pub record Label : Type 0 where
   pub owner : ℕ
   pub row : Row
 
--- slots by their numbers; write also has the bytes of room that it is lent
+-- slots by their numbers, picture's as a list; write also has the bytes of room that it is lent
 pub data Question : Type 0 where
   askBefore askCompare askWrite : ℕ → ℕ → Question
+  askPicture : List ℕ → Question
   askShow : ℕ → Question
 
 -- desks, places and slots by their numbers, an event last with whether it is kept
@@ -127,6 +141,9 @@ before s t = ask (askBefore s t)
 abbrev pub compare : ℕ → ℕ → Act
 compare s t = ask (askCompare s t)
 
+abbrev pub picture : List ℕ → Act
+picture l = ask (askPicture l)
+
 abbrev pub show : ℕ → Act
 show s = ask (askShow s)
 
@@ -136,6 +153,7 @@ write s room = ask (askWrite s room)
 abbrev pub slotAsked : Question → Option ℕ
 slotAsked (askBefore s t) = none
 slotAsked (askCompare s t) = none
+slotAsked (askPicture l) = none
 slotAsked (askShow s) = some s
 slotAsked (askWrite s room) = some s
 
@@ -148,6 +166,10 @@ slotOf (drop s) = none
 slotOf (discard p) = none
 slotOf (ask q) = slotAsked q
 
+pub record Odds : Type 0 where
+  pub lower : ℕ
+  pub higher : ℕ
+
 -- the parts that a call gives; each of them is none where it gives none
 pub record Value : Type 0 where
   pub place : Option ℕ
@@ -156,10 +178,12 @@ pub record Value : Type 0 where
   pub slot : Option ℕ
   pub verdict : Option Bool
   pub relation : Option Relation
+  pub odds : Option Odds
   pub row : Option Row
 
 abbrev pub nothing : Value
-nothing = record { place = none; stamp = none; learnt = none; slot = none; verdict = none; relation = none; row = none }
+nothing =
+    record { place = none; stamp = none; learnt = none; slot = none; verdict = none; relation = none; odds = none; row = none }
 
 -- the place of a send, the stamp, how many desks a receive learns of, and the slot of an event that is kept
 abbrev pub made : Option ℕ → ℕ → Row → Option ℕ → Option ℕ → Value
@@ -171,6 +195,7 @@ made p j r l s =
       slot = s;
       verdict = none;
       relation = none;
+      odds = none;
       row = none;
     }
 
@@ -178,14 +203,29 @@ abbrev pub stamp : ℕ → Row → Value
 stamp j r = made none j r none none
 
 abbrev pub says : Bool → Value
-says t = record { place = none; stamp = none; learnt = none; slot = none; verdict = some t; relation = none; row = none }
+says t =
+    record { place = none; stamp = none; learnt = none; slot = none; verdict = some t; relation = none; odds = none; row = none }
 
 abbrev pub relates : Relation → Value
 relates w =
-    record { place = none; stamp = none; learnt = none; slot = none; verdict = none; relation = some w; row = none }
+    record { place = none; stamp = none; learnt = none; slot = none; verdict = none; relation = some w; odds = none; row = none }
+
+abbrev pub names : ℕ → ℕ → Value
+names i k =
+    record {
+      place = none;
+      stamp = none;
+      learnt = none;
+      slot = none;
+      verdict = none;
+      relation = none;
+      odds = some record { lower = i; higher = k };
+      row = none;
+    }
 
 abbrev pub shows : Row → Value
-shows r = record { place = none; stamp = none; learnt = none; slot = none; verdict = none; relation = none; row = some r }
+shows r =
+    record { place = none; stamp = none; learnt = none; slot = none; verdict = none; relation = none; odds = none; row = some r }
 
 pub record Answer : Type 0 where
   pub number : ℕ
@@ -298,6 +338,16 @@ atLimit X b j = not (ltb (own b j .clock + 1) (limit X j))
 abbrev pub noShelf : Tables → Bool → Bool
 noShelf b q = q && not (ltb (freeSlot b) places)
 
+-- the i-th slot of a list is for desk i
+abbrev pub chosen : List ℕ → ℕ → ℕ
+chosen l i = byte l i
+
+abbrev pub ofTwo : (ℕ → ℕ → Bool) → List ℕ → ℕ → ℕ → Bool
+ofTwo p l i k = ltb i k && p (chosen l i) (chosen l k)
+
+abbrev pub wrongOwner : Tables → List ℕ → ℕ → Bool
+wrongOwner b l i = not (eqb (byIn (b .shelf (chosen l i))) i)
+
 abbrev pub seated : Tables → ℕ → Row → ℕ → Seat
 seated b j r = put (b .seat) j (record { started = true; row = r })
 
@@ -349,6 +399,23 @@ module _ (Z : Phases) where
   abbrev pub seatLags : Tables → ℕ → ℕ → ℕ → Bool
   seatLags b j bound s = not (eqb s j) && eqb (Z .lag (own b j .phase) (b .seat s .row j .phase)) bound
 
+  -- at the desk of the stamp in s, whose own pair for it is the one that the stamp in t may know a later one than
+  abbrev pub knowsMore : Tables → ℕ → ℕ → Bool
+  knowsMore b s t =
+      let j = byIn (b .shelf s) in isLater Z (own b j .phase) (rowIn (b .shelf t) j) (rowIn (b .shelf s) j)
+
+  abbrev pub atOdds : Tables → ℕ → ℕ → Bool
+  atOdds b s t = knowsMore b s t || knowsMore b t s
+
+  abbrev pub firstOdd : Tables → List ℕ → ℕ
+  firstOdd b l = lowest (length l) (λ i. any (length l) (ofTwo (atOdds b) l i))
+
+  abbrev pub secondOdd : Tables → List ℕ → ℕ
+  secondOdd b l = lowest (length l) (ofTwo (atOdds b) l (firstOdd b l))
+
+  unfoldable pub pictured : Tables → List ℕ → Value
+  pictured b l = pick (ltb (firstOdd b l) (length l)) (names (firstOdd b l) (secondOdd b l)) (says true)
+
 module _ (Z : Phases) (X : Setup) where
   abbrev pub learnt : Tables → ℕ → Row → ℕ
   learnt b j w = count (X .desks) (learns Z b j w)
@@ -365,6 +432,9 @@ module _ (Z : Phases) (X : Setup) where
   abbrev pub gapFrom : Tables → ℕ → ℕ → Option Gap
   gapFrom b s t = gapHeld b (b .shelf s) (b .shelf t)
 
+  abbrev pub tooFar : Tables → ℕ → ℕ → Bool
+  tooFar b s t = isOut (gapFrom b s t) || isOut (gapFrom b t s)
+
   unfoldable pub askReasons : Tables → Question → List Reason
   askReasons b (askBefore s t) =
       given NoPlace (noSlot b s || noSlot b t)
@@ -372,7 +442,12 @@ module _ (Z : Phases) (X : Setup) where
       ∷ []
   askReasons b (askCompare s t) =
       given NoPlace (noSlot b s || noSlot b t)
-      ∷ given OutOfReach (isOut (gapFrom b s t) || isOut (gapFrom b t s))
+      ∷ given OutOfReach (tooFar b s t)
+      ∷ []
+  askReasons b (askPicture l) =
+      given NoPlace (not (eqb (length l) (X .desks)) || any (length l) (λ i. noSlot b (chosen l i)))
+      ∷ given OutOfReach (any (length l) (λ i. any (length l) (ofTwo (tooFar b) l i)))
+      ∷ given WrongOwner (any (length l) (wrongOwner b l))
       ∷ []
   askReasons b (askShow s) = given NoPlace (noSlot b s) ∷ []
   askReasons b (askWrite s room) = given NoPlace (noSlot b s) ∷ given NoRoom (ltb room recordSize) ∷ []
@@ -418,6 +493,7 @@ module _ (Z : Phases) (X : Setup) where
   askTells b (askCompare s t) =
       relates (relation (gapIn (gapFrom b s t)) (gapIn (gapFrom b t s))
       (byIn (b .shelf s)) (byIn (b .shelf t)) (rowIn (b .shelf s)) (rowIn (b .shelf t)))
+  askTells b (askPicture l) = pictured Z b l
   askTells b (askShow s) = shows (rowIn (b .shelf s))
   askTells b (askWrite s room) = stamp (byIn (b .shelf s)) (rowIn (b .shelf s))
 

@@ -12,6 +12,7 @@
 --   postedSays      what the answer to send says, its stamp and whether it is kept beside it
 --   toldSays        what the answer to before says
 --   comparedSays    what the answer to compare says
+--   picturedSays    what the answer to picture says
 --   blank           owner 0 and sixteen zeros
 --   Beside n s k    the stamp s and the slot k beside the number n: blank and none where n is a refusal
 --   BesideLearnt n l   the number l of desks learnt of beside the number n: 0 where n is a refusal
@@ -36,7 +37,9 @@ use Rattle.rules.specs.declared.Told.{Told}
 use Rattle.rules.specs.declared.Told.the-variants as Tells
 use Rattle.rules.specs.declared.Compared.{Compared}
 use Rattle.rules.specs.declared.Compared.the-variants as Compares
-use Rattle.rules.specs.Model.{seats, Row, made, says, relates, Answer, refusal, accepted, zeros}
+use Rattle.rules.specs.declared.Pictured.{Pictured}
+use Rattle.rules.specs.declared.Pictured.the-variants as Pictures
+use Rattle.rules.specs.Model.{seats, Row, made, says, relates, names, Answer, refusal, accepted, zeros}
 
 abbrev pub rowSize : ℕ
 rowSize = 16
@@ -81,6 +84,11 @@ toldSays (Tells.Refused n) = refusal n
 abbrev pub comparedSays : Compared → Answer
 comparedSays (Compares.Is r) = accepted (relates r)
 comparedSays (Compares.Refused n) = refusal n
+
+abbrev pub picturedSays : Pictured → Answer
+picturedSays Pictures.Yes = accepted (says true)
+picturedSays (Pictures.Odds i k) = accepted (names i k)
+picturedSays (Pictures.Refused n) = refusal n
 
 abbrev pub blank : Stamp
 blank = record { owner = 0; row = replicate rowSize 0 }

@@ -38,6 +38,8 @@ pub const OUT_OF_REACH: u8 = 16;
 
 pub const BAD_LINE: u8 = 17;
 
+pub const WRONG_OWNER: u8 = 18;
+
 // The setup numbers D, P, L, M, A, m and n, wide enough for any number that comes in.
 pub struct Setup {
     pub desks: usize,
@@ -108,5 +110,12 @@ pub enum Relation {
 // What compare answers.
 pub enum Compared {
     Is(Relation),
+    Refused(u8),
+}
+
+// What picture answers: yes, or two desks at odds, the lower one first.
+pub enum Pictured {
+    Yes,
+    Odds(u8, u8),
     Refused(u8),
 }
