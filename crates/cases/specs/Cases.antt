@@ -1,5 +1,6 @@
 -- The starred cases that need no bytes, the listing of the rules, a run for each error that the desks would make, runs that ask of
--- resets, runs whose mails tell more or less, and one for each refusal that these leave out. Refusals are by their literal numbers.
+-- resets, runs whose mails tell more or less, runs that ask for pictures, and one for each refusal that these leave out. Refusals are
+-- by their literal numbers.
 -- Assumes nothing.
 --   setupWith P A     the setup of the cases with a ring of P, and kept stamps that may lag A; X, that with 5 and 4
 --   uneven            X with m of 1 and n of 3
@@ -7,7 +8,7 @@
 --   pair v t          the pair v.t
 --   Made, Shown       a stamp, and a value, as the listing shows it
 --   event p j ps      a stamp, with the place p where it has one
---   plain, made, posted, word, stands   nothing shown; a stamp; a stamp with its place; yes or no; a relation
+--   plain, made, posted, word, stands, odd   nothing shown; a stamp; a stamp with its place; yes or no; a relation; two desks at odds
 --   learning n v      the stamp v of a receive with the number n of desks learnt of; inSlot s v, the stamp v with its slot s, last
 --   pairs k n r       n pairs of the row r, from desk k on
 --   cut D e, shown D v   a stamp, and the value v, as the listing shows it, with D pairs
@@ -24,6 +25,8 @@
 --   errors            a run for each error that the desks would make; that of a received mail's place is case 12
 --   resets            runs that ask of resets, which reach a phase further back, and of other events
 --   letters           runs whose mails tell of no desk, of one and of two
+--   three s t u       the call picture, of the slots s, t and u for desks 0, 1 and 2
+--   pictures          runs that ask for pictures: closed ones, each two desks at odds, and what refuses them
 --   upTo n            the numbers below n
 --   filling           32 kept events of desk 0, which fill the shelf; filled, their lines
 --   room              runs on places and slots: full ones, freed ones, and a stamp written or kept too long
@@ -45,7 +48,7 @@ use Rattle.ring.specs.Phases.{Pair, Gap, ring, Taken, later}
 use Rattle.rules.specs.declared.Setup.{Setup}
 use Rattle.rules.specs.declared.Relation.{Relation}
 use Rattle.rules.specs.declared.Relation.the-variants.{Before, After, Same, Concurrent}
-use Rattle.rules.specs.Model.{Row, Label, before, compare, write, local, reset, send, receive, drop, discard, Value}
+use Rattle.rules.specs.Model.{Row, Label, before, compare, picture, write, local, reset, send, receive, drop, discard, Odds, Value}
 use Rattle.rules.specs.Calls.{Book, Call, start, on, Turn, ringOf}
 use Rattle.rules.specs.Labels.{gapOff, beforeOff}
 use Rattle.history.specs.Runs.{run}
@@ -76,9 +79,10 @@ pub record Shown : Type 0 where
   pub slot : Option ℕ
   pub verdict : Option Bool
   pub relation : Option Relation
+  pub odds : Option Odds
 
 abbrev pub plain : Shown
-plain = record { place = none; stamp = none; learnt = none; slot = none; verdict = none; relation = none }
+plain = record { place = none; stamp = none; learnt = none; slot = none; verdict = none; relation = none; odds = none }
 
 abbrev pub event : Option ℕ → ℕ → List Pair → Shown
 event p j ps =
@@ -89,6 +93,7 @@ event p j ps =
       slot = none;
       verdict = none;
       relation = none;
+      odds = none;
     }
 
 abbrev pub made : ℕ → List Pair → Shown
@@ -98,17 +103,29 @@ abbrev pub posted : ℕ → ℕ → List Pair → Shown
 posted p = event (some p)
 
 abbrev pub learning : ℕ → Shown → Shown
-learning n v = record { place = none; stamp = v .stamp; learnt = some n; slot = none; verdict = none; relation = none }
+learning n v = record { place = none; stamp = v .stamp; learnt = some n; slot = none; verdict = none; relation = none; odds = none }
 
 abbrev pub inSlot : ℕ → Shown → Shown
 inSlot s v =
-    record { place = v .place; stamp = v .stamp; learnt = v .learnt; slot = some s; verdict = none; relation = none }
+    record { place = v .place; stamp = v .stamp; learnt = v .learnt; slot = some s; verdict = none; relation = none; odds = none }
 
 abbrev pub word : Bool → Shown
-word t = record { place = none; stamp = none; learnt = none; slot = none; verdict = some t; relation = none }
+word t = record { place = none; stamp = none; learnt = none; slot = none; verdict = some t; relation = none; odds = none }
 
 abbrev pub stands : Relation → Shown
-stands r = record { place = none; stamp = none; learnt = none; slot = none; verdict = none; relation = some r }
+stands r = record { place = none; stamp = none; learnt = none; slot = none; verdict = none; relation = some r; odds = none }
+
+abbrev pub odd : ℕ → ℕ → Shown
+odd i k =
+    record {
+      place = none;
+      stamp = none;
+      learnt = none;
+      slot = none;
+      verdict = none;
+      relation = none;
+      odds = some record { lower = i; higher = k };
+    }
 
 unfoldable pub pairs : ℕ → ℕ → Row → List Pair
 pairs k zero r = []
@@ -127,6 +144,7 @@ shown D v =
       slot = v .slot;
       verdict = v .verdict;
       relation = v .relation;
+      odds = v .odds;
     }
 
 pub record Line : Type 0 where
@@ -338,6 +356,50 @@ letters =
     ∷ [])
     ∷ []
 
+abbrev pub three : ℕ → ℕ → ℕ → Call
+three s t u = on (picture (s ∷ t ∷ u ∷ []))
+
+abbrev pub pictures : List Case
+pictures =
+    -- desk 0 tells desk 1, and that tells desk 2: a send may be chosen without its receipt, a receipt not without its send; the lowest
+    -- desk is named, and with it the lowest at odds with it; NoPlace, WrongOwner; from 2.1 OutOfReach, not from the reset before it
+    opened X
+    (on (local 0 true) ∷ on (local 1 true) ∷ on (local 2 true)
+    ∷ on (send 0 1 true) ∷ on (receive 1 0 true) ∷ on (send 1 2 false) ∷ on (receive 2 0 true)
+    ∷ three 0 1 2 ∷ three 3 1 2 ∷ three 3 4 2
+    ∷ three 0 4 5 ∷ three 0 1 5 ∷ three 3 4 5
+    ∷ on (picture (3 ∷ 4 ∷ [])) ∷ three 3 4 6 ∷ three 4 3 2
+    ∷ on (reset 0 false) ∷ on (reset 0 true) ∷ on (local 0 true)
+    ∷ three 6 1 2 ∷ three 7 1 2 ∷ three 1 7 2
+    ∷ [])
+    (told (inSlot 0 (made 0 (pair 0 1 ∷ pair 0 0 ∷ pair 0 0 ∷ [])))
+    ∷ told (inSlot 1 (made 1 (pair 0 0 ∷ pair 0 1 ∷ pair 0 0 ∷ [])))
+    ∷ told (inSlot 2 (made 2 (pair 0 0 ∷ pair 0 0 ∷ pair 0 1 ∷ [])))
+    ∷ told (inSlot 3 (posted 0 0 (pair 0 2 ∷ pair 0 0 ∷ pair 0 0 ∷ [])))
+    ∷ told (inSlot 4 (learning 1 (made 1 (pair 0 2 ∷ pair 0 2 ∷ pair 0 0 ∷ []))))
+    ∷ told (posted 0 1 (pair 0 2 ∷ pair 0 3 ∷ pair 0 0 ∷ []))
+    ∷ told (inSlot 5 (learning 2 (made 2 (pair 0 2 ∷ pair 0 3 ∷ pair 0 2 ∷ []))))
+    ∷ told (word true) ∷ told (word true) ∷ told (word true)
+    ∷ told (odd 0 1) ∷ told (odd 0 2) ∷ told (odd 1 2)
+    ∷ refused 5 ∷ refused 5 ∷ refused 18
+    ∷ told (made 0 (pair 1 0 ∷ pair 0 0 ∷ pair 0 0 ∷ []))
+    ∷ told (inSlot 6 (made 0 (pair 2 0 ∷ pair 0 0 ∷ pair 0 0 ∷ [])))
+    ∷ told (inSlot 7 (made 0 (pair 2 1 ∷ pair 0 0 ∷ pair 0 0 ∷ [])))
+    ∷ told (word true) ∷ refused 16 ∷ refused 16
+    ∷ [])
+    -- after 2 the phase comes round to 0: desk 1 knows of 0.1, which is later than 2.2 and 0.0, and no more than that send itself
+    ∷ opened small
+    (told-by 0 ++ told-by 0 ++ on (local 0 true) ∷ on (reset 0 true) ∷ on (send 0 1 true) ∷ on (receive 1 0 true)
+    ∷ on (picture (0 ∷ 3 ∷ [])) ∷ on (picture (1 ∷ 3 ∷ [])) ∷ on (picture (2 ∷ 3 ∷ []))
+    ∷ [])
+    (told-lines 0 1 1 ++ told-lines 0 2 2 ++ told (inSlot 0 (made 0 (pair 2 2 ∷ pair 0 0 ∷ [])))
+    ∷ told (inSlot 1 (made 0 (pair 0 0 ∷ pair 0 0 ∷ [])))
+    ∷ told (inSlot 2 (posted 0 0 (pair 0 1 ∷ pair 0 0 ∷ [])))
+    ∷ told (inSlot 3 (learning 1 (made 1 (pair 0 1 ∷ pair 0 3 ∷ []))))
+    ∷ told (odd 0 1) ∷ told (odd 0 1) ∷ told (word true)
+    ∷ [])
+    ∷ []
+
 abbrev pub upTo : ℕ → List ℕ
 upTo n = tab 0 n (λ i. i)
 
@@ -442,7 +504,7 @@ room =
     ∷ []
 
 abbrev pub all : List Case
-all = starred ++ listing ∷ errors ++ resets ++ letters ++ room
+all = starred ++ listing ∷ errors ++ resets ++ letters ++ pictures ++ room
 
 abbrev pub took : ℕ → Bool → Taken
 took v t = record { pair = pair v 0; changed = t }

@@ -177,12 +177,12 @@ module _ (X : Setup) (h : Log) (c : Causal X h) (b : Tables) (x y : ℕ) (lx : x
   lag-true : True h lag-gap x y
   lag-true = let p = nx (h .desk x) in let q = ny (h .desk x) in omega arith
 
-  lag-open : InReach X h x y → gap line X b (h .desk x) (h .row x) (h .row y) ≡ some lag-gap
+  pub lag-open : InReach X h x y → gap line X b (h .desk x) (h .row x) (h .row y) ≡ some lag-gap
   lag-open r =
       near-open X (h .row x (h .desk x) .clock) lag-gap (h .row x (h .desk x) .phase) (h .row y (h .desk x) .phase) lag-true
       (by-clock X h c x y lx r)
 
-  lag-shut : isOut (gap line X b (h .desk x) (h .row x) (h .row y)) ≡ false → InReach X h x y
+  pub lag-shut : isOut (gap line X b (h .desk x) (h .row x) (h .row y)) ≡ false → InReach X h x y
   lag-shut e =
       by-kind X h c x y lx
       (near-shut X (h .row x (h .desk x) .clock) lag-gap (h .row x (h .desk x) .phase) (h .row y (h .desk x) .phase) lag-true e)

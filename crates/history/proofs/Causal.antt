@@ -237,11 +237,11 @@ module _ (X : Setup) (h : Log) (c : Causal X h) (j : ℕ) (w : Kind) (r : Row) (
 
 -- Each desk's pairs rise; a row's entry for desk k is that of the last event of k up to it.
 module _ (X : Setup) (h : Log) (c : Causal X h) where
-  upto-le : (e f : ℕ) → Upto h e f → e ≤ f
+  pub upto-le : (e f : ℕ) → Upto h e f → e ≤ f
   upto-le e f (inl q) = omega arith
   upto-le e f (inr l) = let z = leads-lt h (c .caused) l in omega arith
 
-  upto-in : (e f : ℕ) → f < h .count → Upto h e f → e < h .count
+  pub upto-in : (e f : ℕ) → f < h .count → Upto h e f → e < h .count
   upto-in e f b u = let z = upto-le e f u in omega arith
 
   pub rising : (e f : ℕ) → e < f → f < h .count → h .desk e ≡ h .desk f → Earlier (h .row e (h .desk e)) (h .row f (h .desk e))

@@ -53,6 +53,7 @@ same-result r =
           slot = v .slot;
           verdict = v .verdict;
           relation = v .relation;
+          odds = v .odds;
           row = same-shown (v .row) i;
         };
       };

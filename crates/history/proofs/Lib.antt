@@ -14,6 +14,7 @@ pub mod Alike
 pub mod Vector
 pub mod Learnt
 pub mod Shelf
+pub mod Picture
 pub mod Stamps
 pub mod Labels
 pub mod Agree

@@ -2,21 +2,27 @@
 -- book answers by the same number and leaves the mapped result.
 -- Assumes nothing.
 use mathlib.Core.Path.{_≡_, refl, ap, sym, _∙_, fun-ext}
-use mathlib.Core.Bool.{Bool, true, not, _&&_}
+use mathlib.Core.Bool.{Bool, true, false, not, _&&_, _||_}
 use mathlib.Core.Option.{Option, none, some}
+use mathlib.Core.List.{List}
 use Prim.Native.Nat.{ℕ, zero, suc, _*_, _<_}
-use lib.Dec.{eqb}
+use native.Mathlib.Omega.{arith}
+use lib.Dec.{ltb, eqb}
+use lib.ListN.{length}
+use borrow.Author.Tests.{ltb-true}
 use Rattle.ring.specs.Phases.{Phases, Pair, isLater}
 use Rattle.rules.specs.declared.Setup.{Setup}
-use Rattle.tools.specs.Tests.{pick}
+use Rattle.tools.specs.Tests.{pick, any}
 use Rattle.tools.specs.Tables.{put, putAt}
-use Rattle.rules.specs.Model.{Row, Seat, Held, Tables, Question, askBefore, askCompare, askShow, askWrite, Act, local, reset, send, receive, drop, discard, ask}
+use Rattle.rules.specs.Model.{Row, Seat, Held, Tables, Question, askBefore, askCompare, askPicture, askShow, askWrite, Act, local, reset, send, receive, drop, discard, ask}
 use Rattle.rules.specs.Model.{stamp, made, shows, accepted, step, done, askReasons, reasons, askTells, why, filing, telling}
 use Rattle.rules.specs.Model.{grown, taken, merged, learns, learnt, turned, event, freeMail, slotFor, rowIn, byIn, toIn, used, own, lags, tick, turn}
-use Rattle.rules.specs.Model.{settle, gapHeld, near}
+use Rattle.rules.specs.Model.{picture, noSlot, chosen, ofTwo, tooFar, wrongOwner, atOdds, firstOdd, secondOdd, pictured, says, names}
+use Rattle.rules.specs.Model.{settle, isOut, gapHeld, near}
 use Rattle.history.specs.Round.{mapPair, mapRow, mapSeat, mapHeld, mapTables, mapValue, mapResult}
 use Rattle.tools.specs.Tables.{Each}
-use Rattle.tools.proofs.Tests.{pick-ap, any-cong, count-cong}
+use Rattle.tools.proofs.Tests.{pick-ap, and-true-l, not-off, or-false-r, any-false, any-cong, lowest-cong, count-cong}
+use Rattle.tools.proofs.Reasons.{clear}
 use Rattle.tools.proofs.Tables.{put-both}
 use Rattle.rules.specs.Model.{phases}
 use Rattle.rules.proofs.Accepted.{no-receive, no-ask}
@@ -71,10 +77,23 @@ module _ (Z Y : Phases) (φ : ℕ → ℕ → ℕ) (X : Setup) (b : Tables) (w :
       go (some e) none p q = refl
       go (some e) (some f) p q = ap (near X (e .row (e .by) .clock)) (λ i. record { up = p (e .by) i; down = q (e .by) i })
 
+  far-map : (s t : ℕ) → tooFar Z X (mapTables φ b) s t ≡ tooFar Y X b s t
+  far-map s t = λ i. isOut (gap-held s t i) || isOut (gap-held t s i)
+
   ask-why : (q : Question) → why Z X (mapTables φ b) (ask q) ≡ why Y X b (ask q)
   unfolding reasons askReasons
   ask-why (askBefore s t) = rw (gap-held s t) (simp used-map)
   ask-why (askCompare s t) = rw (gap-held s t, gap-held t s) (simp used-map)
+  ask-why (askPicture l) =
+      let n = length l in
+      let slots = any-cong n (λ i. noSlot (mapTables φ b) (chosen l i)) (λ i. noSlot b (chosen l i))
+      (λ i m. ap (λ u. not (u && ltb (chosen l i) 32)) (used-map φ (b .shelf (chosen l i)))) in
+      let reach = any-cong n (λ i. any n (ofTwo (tooFar Z X (mapTables φ b)) l i)) (λ i. any n (ofTwo (tooFar Y X b) l i))
+      (λ i m. any-cong n (ofTwo (tooFar Z X (mapTables φ b)) l i) (ofTwo (tooFar Y X b) l i)
+      (λ k m. ap (λ u. ltb i k && u) (far-map (chosen l i) (chosen l k)))) in
+      let owners = any-cong n (wrongOwner (mapTables φ b) l) (wrongOwner b l)
+      (λ i m. ap (λ j. not (eqb j i)) (by-map φ (b .shelf (chosen l i)))) in
+      λ i. pick (not (eqb n (X .desks)) || slots i) 5 (pick (reach i) 16 (pick (owners i) 18 0))
   ask-why (askShow s) = simp used-map
   ask-why (askWrite s room) = simp used-map
 
@@ -177,10 +196,61 @@ module _ (Z Y : Phases) (φ : ℕ → ℕ → ℕ) (X : Setup) (b : Tables) (w :
   free-mail : freeMail (mapTables φ b) ≡ freeMail b
   free-mail = simp used-map
 
+  -- what either of two kept stamps knows of the other's desk
+  more-map : (e f : Option Held) → Each (KeepsAll Z Y φ b) e → Each (KeepsAll Z Y φ b) f → used e ≡ true → used f ≡ true
+      → let j = byIn (mapHeld φ e) in
+      isLater Z (φ j (phases b j)) (rowIn (mapHeld φ f) j) (rowIn (mapHeld φ e) j)
+      ≡ isLater Y (phases b (byIn e)) (rowIn f (byIn e)) (rowIn e (byIn e))
+  more-map none f p q u v = absurd (mathlib.Core.Bool.false≢true u)
+  more-map (some e) none p q u v = absurd (mathlib.Core.Bool.false≢true v)
+  more-map (some e) (some f) p q u v = later-map (e .by) (e .row (e .by)) (f .row (e .by)) (p (e .by)) (q (e .by))
+
+  -- all slots of a list are used
+  module _ (l : List ℕ) (there : (i : ℕ) → i < length l → used (b .shelf (chosen l i)) ≡ true) where
+    odds-map : (i k : ℕ) → i < length l → k < length l
+        → atOdds Z (mapTables φ b) (chosen l i) (chosen l k) ≡ atOdds Y b (chosen l i) (chosen l k)
+    odds-map i k m n =
+        let s = chosen l i in
+        let t = chosen l k in
+        λ x. more-map (b .shelf s) (b .shelf t) (w .shelf s) (w .shelf t) (there i m) (there k n) x
+        || more-map (b .shelf t) (b .shelf s) (w .shelf t) (w .shelf s) (there k n) (there i m) x
+
+    -- the lower desk is one of the list where it is below the higher
+    two-map : (i k : ℕ) → k < length l → ofTwo (atOdds Z (mapTables φ b)) l i k ≡ ofTwo (atOdds Y b) l i k
+    two-map i k n = go (ltb i k) refl
+      where
+        go : (t : Bool) → ltb i k ≡ t → (t && atOdds Z (mapTables φ b) (chosen l i) (chosen l k)) ≡ (t && atOdds Y b (chosen l i) (chosen l k))
+        go true e = let m : i < k = ltb-true i k e in odds-map i k (omega arith) n
+        go false e = refl
+
+    first-map : firstOdd Z (mapTables φ b) l ≡ firstOdd Y b l
+    first-map =
+        lowest-cong (length l) (λ i. any (length l) (ofTwo (atOdds Z (mapTables φ b)) l i)) (λ i. any (length l) (ofTwo (atOdds Y b) l i))
+        (λ i m. any-cong (length l) (ofTwo (atOdds Z (mapTables φ b)) l i) (ofTwo (atOdds Y b) l i) (two-map i))
+
+    second-map : secondOdd Z (mapTables φ b) l ≡ secondOdd Y b l
+    second-map =
+        lowest-cong (length l) (ofTwo (atOdds Z (mapTables φ b)) l (firstOdd Z (mapTables φ b) l)) (ofTwo (atOdds Y b) l (firstOdd Y b l))
+        (λ k n. two-map (firstOdd Z (mapTables φ b) l) k n ∙ ap (λ i. ofTwo (atOdds Y b) l i k) first-map)
+
+    -- the value is the same, and has no phase in it
+    pictured-map : pictured Z (mapTables φ b) l ≡ mapValue φ (pictured Y b l)
+    unfolding pictured
+    pictured-map =
+        (λ x. pick (ltb (first-map x) (length l)) (names (first-map x) (second-map x)) (says true))
+        ∙ sym (pick-ap (mapValue φ) (ltb (firstOdd Y b l) (length l)) (names (firstOdd Y b l) (secondOdd Y b l)) (says true))
+
+  all-used : (l : List ℕ) → why Y X b (picture l) ≡ 0 → (i : ℕ) → i < length l → used (b .shelf (chosen l i)) ≡ true
+  unfolding reasons askReasons
+  all-used l e i m =
+      let t = any-false (length l) (λ i. noSlot b (chosen l i)) (or-false-r (not (eqb (length l) (X .desks))) _ (clear _ 4 _ e .0)) i m in
+      and-true-l _ _ (not-off _ t)
+
   tells-map : (q : Question) → why Y X b (ask q) ≡ 0 → askTells Z X (mapTables φ b) q ≡ mapValue φ (askTells Y X b q)
   unfolding askTells
   tells-map (askBefore s t) e = simp (gap-held s t, by-map, clock-map)
   tells-map (askCompare s t) e = simp (gap-held s t, gap-held t s, by-map, clock-map)
+  tells-map (askPicture l) e = pictured-map l (all-used l e)
   tells-map (askShow s) e = ap shows (row-map φ (b .shelf s) (no-ask Y X b (askShow s) s refl e .0))
   tells-map (askWrite s room) e =
       λ i. stamp (by-map φ (b .shelf s) i) (row-map φ (b .shelf s) (no-ask Y X b (askWrite s room) s refl e .0) i)

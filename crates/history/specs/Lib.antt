@@ -8,3 +8,4 @@ pub mod Vector
 pub mod Learnt
 pub mod Contract
 pub mod Demand
+pub mod Picture

@@ -47,6 +47,7 @@ mapValue φ v =
       slot = v .slot;
       verdict = v .verdict;
       relation = v .relation;
+      odds = v .odds;
       row = mapShown φ (v .row);
     }
 

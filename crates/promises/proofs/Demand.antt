@@ -1,24 +1,27 @@
 -- DEMAND 3 over bytes: any calls since an accepted start, and the same calls with phases that never come round.
 -- Assumes nothing.
-use mathlib.Core.Path.{_≡_, refl, ap, sym, _∙_}
+use mathlib.Core.Path.{_≡_, refl, ap, sym, subst, _∙_}
 use mathlib.Core.Bool.{Bool, true}
 use mathlib.Core.List.{List, [], _∷_}
 use mathlib.Core.Option.{some}
 use mathlib.Core.Logic.{_↔_}
-use Prim.Native.Nat.{ℕ}
+use Prim.Native.Nat.{ℕ, _<_}
+use lib.ListN.{length}
 use Rattle.rules.specs.declared.Setup.{Setup}
 use Rattle.rules.specs.declared.Relation.{Relation}
 use Rattle.rules.specs.declared.Relation.the-variants.{Crossed}
-use Rattle.rules.specs.Model.{receive, before, compare, used, relates, Answer}
+use Rattle.rules.specs.Model.{receive, before, compare, picture, used, relates, Answer, chosen}
 use Rattle.rules.specs.Calls.{Book, Call, start, on, lineOf, call}
 use Rattle.history.specs.History.{Log, Leads, State, begin, next, after, logAfter, setupAfter}
 use Rattle.history.specs.Round.{roundBook}
 use Rattle.history.specs.Demand.{InReach, Stands, BeforeSaid, BeforeIs, CompareSaid, CompareIs}
 use Rattle.history.specs.Contract.{Meets}
 use Rattle.history.specs.Learnt.{Knew, Tells, LearntSaid}
+use Rattle.history.specs.Picture.{PictureIs}
 use Rattle.history.proofs.Shelf.{state-before, state-compare, compare-words}
 use Rattle.history.proofs.Substitute.{kept-in, meets-reach}
 use Rattle.history.proofs.Learnt.{state-learnt, state-nothing, ring-changes}
+use Rattle.history.proofs.Picture.{state-picture}
 use Rattle.book.specs.Sound.{sound}
 use Rattle.book.specs.Codec.{decode, encode}
 use Rattle.book.specs.Answers.{answerTo, bookAfter}
@@ -52,14 +55,14 @@ module _ (s : List ℕ) (X : Setup) (started : answerTo s (start X) .number ≡ 
   pub same-book : bytes ≡ encode (roundBook (after (begin X) cs .book))
   same-book = sym (encode-decode bytes (together .whole)) ∙ ap encode (together .told)
 
+  abbrev behind : ℕ → ℕ
+  behind = after (begin X) cs .history .kept
+
+  is-used : (k : ℕ) → used (decode bytes .tables .shelf k) ≡ true → used (roundBook (after (begin X) cs .book) .tables .shelf k) ≡ true
+  is-used k u = ap (λ (b : Book). used (b .tables .shelf k)) (sym (together .told)) ∙ u
+
   -- two used slots, and the events behind them
   module _ (i j : ℕ) (ui : used (decode bytes .tables .shelf i) ≡ true) (uj : used (decode bytes .tables .shelf j) ≡ true) where
-    abbrev behind : ℕ → ℕ
-    behind = after (begin X) cs .history .kept
-
-    is-used : (k : ℕ) → used (decode bytes .tables .shelf k) ≡ true → used (roundBook (after (begin X) cs .book) .tables .shelf k) ≡ true
-    is-used k u = ap (λ (b : Book). used (b .tables .shelf k)) (sym (together .told)) ∙ u
-
     -- Of two kept stamps within reach the first is before exactly when a chain leads from its event to the other's; out
     -- of reach is answered exactly when the true phases differ by more than the setup permits.
     pub before-chains : BeforeIs (setupAfter X cs) (logAfter X cs) (behind i) (behind j) (answerTo bytes (on (before i j)))
@@ -102,6 +105,17 @@ module _ (s : List ℕ) (X : Setup) (started : answerTo s (start X) .number ≡ 
     -- Kept stamps in a book brought along from start are never crossed.
     pub never-crossed : answerTo bytes (on (compare i j)) .value ≡ relates Crossed → ⊥
     never-crossed e = words-stand Crossed e
+
+  -- a used slot for each desk, and the events behind them
+  module _ (l : List ℕ) (whole : length l ≡ setupAfter X cs .desks)
+      (there : (i : ℕ) → i < length l → used (decode bytes .tables .shelf (chosen l i)) ≡ true) where
+    -- Picture says yes exactly when no event up to a choice was caused by one beyond, else names the lowest two desks where one was; out
+    -- of reach is answered exactly when two choices are, wrong owner exactly when, of choices within reach, one is another desk's.
+    pub picture-chains : PictureIs (setupAfter X cs) (logAfter X cs) (λ i. behind (chosen l i)) (answerTo bytes (on (picture l)))
+    picture-chains =
+        subst (PictureIs (setupAfter X cs) (logAfter X cs) (λ i. behind (chosen l i)))
+        (sym (ring-answer bytes _ together (on (picture l))))
+        (state-picture _ (together .faithful) l whole (λ i m. is-used (chosen l i) (there i m)))
 
   -- an accepted receive, the log with it, and its event, the last one there
   module _ (j p : ℕ) (q : Bool) (accepted : answerTo bytes (on (receive j p q)) .number ≡ 0) where
