@@ -20,7 +20,7 @@ use rules::Stamp;
 use rules::Told;
 
 // The owner of the stamp in a used slot.
-fn owner_of(book: &[u8], slot: usize) -> u8
+pub fn owner_of(book: &[u8], slot: usize) -> u8
     requires { ⌜ length (now book) ≡ bookSize ⌝ }
     requires { ⌜ noSlot (tablesOf (now book)) slot ≡ false ⌝ }
     ensures { λ r. ⌜ r ≡ byIn (tablesOf (now (book .entry)) .shelf slot) ⌝ }

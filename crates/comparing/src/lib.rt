@@ -23,7 +23,7 @@ pub struct Way {
 }
 
 // A difference within reach is above minus this: m, and m+1 from a reset.
-fn reach_back(setup: Setup, reset: bool) -> usize
+pub fn reach_back(setup: Setup, reset: bool) -> usize
     requires { ⌜ setup .back ≤ 255 ⌝ }
     ensures { λ r. ⌜ r ≡ reachBack setup reset ⌝ }
 {

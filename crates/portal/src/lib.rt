@@ -7,7 +7,7 @@ ghost use Rattle.rules.specs.Model;
 ghost use Rattle.rules.specs.Model.{refusal};
 ghost use Rattle.rules.specs.Calls;
 ghost use Rattle.rules.specs.Calls.{on};
-ghost use Rattle.rules.specs.Replies.{stampedSays, receivedSays, postedSays, toldSays, comparedSays, blank};
+ghost use Rattle.rules.specs.Replies.{stampedSays, receivedSays, postedSays, toldSays, comparedSays, picturedSays, blank};
 ghost use Rattle.rules.specs.Replies.{Beside, BesideLearnt, BesidePost};
 ghost use Rattle.rules.specs.declared.Kept.the-variants as Keeps;
 ghost use Rattle.book.specs.Layout;
@@ -19,6 +19,7 @@ ghost use Rattle.portal.specs.Freed.{cleared, freeAfter};
 ghost use Rattle.portal.specs.Kept.{keptIn, shelved};
 use rules::Compared;
 use rules::Kept;
+use rules::Pictured;
 use rules::Posted;
 use rules::Received;
 use rules::Sent;
@@ -260,6 +261,17 @@ pub fn compare(book: &[u8], first: usize, second: usize) -> Compared
         return Compared::Refused(n);
     }
     asking::compared(book, first, second)
+}
+
+// Picture, of the stamps in a list of slots, the first for desk 0 and so on.
+pub fn picture(book: &[u8], slots: &[usize]) -> Pictured
+    ensures { λ r. ⌜ picturedSays r ≡ answerTo (now (book .entry)) (on (Model.picture (now (slots .entry)))) ⌝ }
+{
+    let n = refusals::list_number(book, slots);
+    if n != rules::DONE {
+        return Pictured::Refused(n);
+    }
+    pictures::pictured(book, slots)
 }
 
 // Show hands back the sixteen row bytes of a slot as a part of the book itself; a refused show hands back an empty part.

@@ -1,20 +1,22 @@
 -- What the questions about slots are refused by, and what they have where they are not.
 -- Assumes nothing.
-use Prim.Native.Nat.{ℕ, _≤_}
+use Prim.Native.Nat.{ℕ, _≤_, _<_}
 use mathlib.Core.Path.{_≡_, refl, sym, ap, _∙_}
-use mathlib.Core.Bool.{Bool, true, false, _||_}
+use mathlib.Core.Bool.{Bool, true, false, not, _||_}
 use mathlib.Core.List.{List}
-use borrow.Author.Tests.{ltb-false}
-use lib.Dec.{ltb}
-use Rattle.tools.specs.Tests.{pick}
-use Rattle.tools.proofs.Tests.{or-false-l, or-false-r}
+use borrow.Author.Tests.{ltb-false, eqb-true, not-false}
+use lib.Dec.{ltb, eqb}
+use lib.ListN.{length}
+use Rattle.tools.specs.Tests.{pick, any}
+use Rattle.tools.proofs.Tests.{or-false-l, or-false-r, any-false}
 use Rattle.tools.proofs.Reasons.{clear}
 use Rattle.rules.specs.Numbers.{NoPlace, NoRoom, number}
-use Rattle.rules.specs.Model.{before, compare, show, write, noSlot, reasons, askReasons}
+use Rattle.rules.specs.Model.{before, compare, picture, show, write, noSlot, chosen, reasons, askReasons}
+use Rattle.book.specs.Layout.{setupOf}
 use Rattle.book.specs.Sound.{sound}
 use Rattle.book.specs.Numbers.{tablesOf, numberOf}
 use Rattle.book.proofs.Numbers.{ready}
-use Rattle.refusals.specs.First.{slotsNumber}
+use Rattle.refusals.specs.First.{slotsNumber, listNumber}
 use Rattle.refusals.proofs.First.{asked-due, asked-clear}
 
 -- two used slots of a sound book
@@ -52,6 +54,37 @@ module _ (s : List ℕ) (i k : ℕ) where
     pub compare-due : n ≡ numberOf s (compare i k)
     unfolding reasons askReasons
     compare-due = due _
+
+-- a used slot of a sound book for each desk
+pub record Listed (s l : List ℕ) : Type 0 where
+  pub whole : sound s ≡ true
+  pub count : length l ≡ setupOf s .desks
+  pub used : (i : ℕ) → i < length l → noSlot (tablesOf s) (chosen l i) ≡ false
+
+module _ (s l : List ℕ) where
+  abbrev otherCount : Bool
+  otherCount = not (eqb (length l) (setupOf s .desks))
+
+  abbrev gone : Bool
+  gone = any (length l) (λ i. noSlot (tablesOf s) (chosen l i))
+
+  -- the number that is due for the list alone
+  pub list-number : sound s ≡ true → (t u : Bool) → otherCount ≡ t → gone ≡ u → pick (t || u) (number NoPlace) 0 ≡ listNumber s l
+  list-number h t u n m = sym (λ x. pick (h x) (pick (n x || m x) 5 0) 1)
+
+  pub list-used : listNumber s l ≡ 0 → Listed s l
+  list-used e =
+      let q = asked-clear s (otherCount || gone) 4 e in
+      record {
+        whole = q .0;
+        count = eqb-true _ _ (not-false _ (or-false-l otherCount gone (q .1)));
+        used = any-false (length l) _ (or-false-r otherCount gone (q .1));
+      }
+
+  -- is due for a picture, whatever its stamps
+  pub picture-due : (n : ℕ) → n ≡ listNumber s l → (n ≡ 0 → ⊥) → n ≡ numberOf s (picture l)
+  unfolding reasons askReasons
+  picture-due n e ne = asked-due s (otherCount || gone) 5 n e ne _
 
 -- one used slot of a sound book
 pub record One (s : List ℕ) (i : ℕ) : Type 0 where

@@ -3,10 +3,11 @@
 ghost use mathlib.Core.Path.{_≡_};
 ghost use Prim.Native.Nat.{_<_, _≤_};
 ghost use lib.ListN.{length};
+ghost use Rattle.tools.specs.Tests.{any};
 ghost use Rattle.rules.specs.Model;
 ghost use Rattle.book.specs.Layout.{bookSize, shelfFrom};
-ghost use Rattle.book.specs.Numbers.{numberOf};
-ghost use Rattle.refusals.specs.First.{deskNumber, usedNumber, slotsNumber};
+ghost use Rattle.book.specs.Numbers.{tablesOf, numberOf};
+ghost use Rattle.refusals.specs.First.{deskNumber, usedNumber, slotsNumber, listNumber};
 ghost use Rattle.refusals.specs.Grants.{granted, shelfGrant, grantOf};
 
 // What an event is granted: its number, and where that is 0 the slot for its stamp; 32, which is none, where it is not kept.
@@ -162,6 +163,38 @@ pub fn slots_number(book: &[u8], first: usize, second: usize) -> u8
     if !reasons::is_used(book, parts::SHELF, first)
         | !reasons::is_used(book, parts::SHELF, second)
     {
+        return rules::NO_PLACE;
+    }
+    rules::DONE
+}
+
+// Whether a slot of the list is above 31 or free.
+fn any_gone(book: &[u8], slots: &[usize]) -> bool
+    requires { ⌜ length (now book) ≡ bookSize ⌝ }
+    ensures { λ r. ⌜ r ≡ any (length (now (slots .entry)))
+        (λ i. Model.noSlot (tablesOf (now (book .entry))) (Model.chosen (now (slots .entry)) i)) ⌝ }
+{
+    let mut i: usize = 0;
+    while i < slots.len() {
+        if !reasons::is_used(book, parts::SHELF, slots[i]) {
+            return true;
+        }
+        i += 1;
+    }
+    false
+}
+
+// Picture, before its stamps are looked at: BadBook, NoPlace or 0. OutOfReach and WrongOwner come with the picture.
+pub fn list_number(book: &[u8], slots: &[usize]) -> u8
+    ensures { λ r. ⌜ r ≡ listNumber (now (book .entry)) (now (slots .entry)) ⌝ }
+{
+    if !soundness::sound(book) {
+        return rules::BAD_BOOK;
+    }
+    if slots.len() != parts::desks_of(book) {
+        return rules::NO_PLACE;
+    }
+    if any_gone(book, slots) {
         return rules::NO_PLACE;
     }
     rules::DONE

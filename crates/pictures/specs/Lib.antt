@@ -1,0 +1,3 @@
+-- What a picture needs of the bytes of a book.
+pub mod Froms
+pub mod Pairs
