@@ -2,20 +2,21 @@
 -- Assumes nothing.
 --   printable    the answer to an act has room for the pairs of the book's desks
 --   same-book    an act that changes no table leaves every byte
---   Obeyed       what a command prints from a place on, and the book that it leaves
---   printed      a command is obeyed by its call and by printing the answer, with the desks of the book
+--   Obeyed       what a line prints from a place on, and the book that it leaves
+--   printed      a line is obeyed by the call of its command and by printing the answer, with the desks of the book
 --   printed-any  the same of an answer that is printed alike for any desks
 --   blind        a line's answer goes by the bytes of it that are kept
 --   bad-line     a BadLine prints its number, and makes no call
 --   long-line, no-line   a line over 64 bytes, and an empty one, is a BadLine
 --   line-no-event   NoEvent is answered to no line
 use Prim.Native.Nat.{ℕ, zero, suc, _≤_, _<_}
-use mathlib.Core.Path.{_≡_, refl, sym, ap, _∙_}
+use mathlib.Core.Path.{_≡_, refl, sym, ap, subst, _∙_}
 use mathlib.Core.Bool.{Bool, true, false}
 use mathlib.Core.List.{List, [], _∷_, _++_}
 use mathlib.Core.Option.{Option, none, some}
 use native.Mathlib.Omega.{arith}
 use lib.ListN.{length}
+use Rattle.tools.specs.Tests.{allOf, allBelow}
 use Rattle.tools.specs.Lists.{byte}
 use Rattle.rules.specs.Model.{Act, Answer}
 use Rattle.rules.specs.Calls.{Call, on}
@@ -28,14 +29,13 @@ use Rattle.book.proofs.Codec.{decode-holds}
 use Rattle.book.proofs.Numbers.{doneOn, accepted-bytes, refused-bytes, ready}
 use Rattle.book.proofs.Told.{few-desks}
 use Rattle.text.proofs.Streams.{Blind}
-use Rattle.text.specs.Words.{ascii}
+use Rattle.text.specs.Words.{ascii, opens}
 use Rattle.text.specs.Put.{Wrote}
 use Rattle.commands.specs.declared.Command.{Command}
-use Rattle.commands.specs.declared.Command.the-variants.{Bad}
-use Rattle.commands.specs.Lines.{verbs, choose, parseOf, callOf}
+use Rattle.commands.specs.Lines.{shaped, verbs, pictureOf, choose, parseOf, callOf}
 use Rattle.commands.proofs.Shapes.{sift, long-bad, kept-enough}
 use Rattle.replies.specs.Print.{answerText, Printable}
-use Rattle.answering.specs.Answering.{answerOf, commandText, commandBook, lineText, lineBook, answering}
+use Rattle.answering.specs.Answering.{answerOf, bookOf, callText, lineText, lineBook, answering}
 
 few : (b : List ℕ) (c : Act) → answerTo b (on c) .number ≡ 0 → byte b 2 ≤ 8
 unfolding answerTo admits
@@ -55,39 +55,43 @@ same-book s c t = go (numberOf s c) refl
     go zero e = accepted-bytes s c e s (rw t (decode-holds s (ready s c e .0)))
     go (suc n) e = refused-bytes s c (suc n) (sym e) (λ z. omega arith)
 
-abbrev pub Obeyed : List ℕ → List ℕ → ℕ → Command → List ℕ → List ℕ → ℕ → Type 0
-Obeyed b o at m b′ o′ r = Wrote o at (commandText b m) o′ r × (b′ ≡ commandBook b m)
+abbrev pub Obeyed : List ℕ → List ℕ → ℕ → List ℕ → List ℕ → List ℕ → ℕ → Type 0
+Obeyed b o at l b′ o′ r = Wrote o at (lineText b l) o′ r × (b′ ≡ lineBook b l)
 
-module _ (b o : List ℕ) (at : ℕ) (m n : Command) (e : m ≡ n) (b′ o′ : List ℕ) (r : ℕ) (a : Answer) where
-  pub printed : a ≡ answerOf b (callOf n) → b′ ≡ commandBook b n → (D : ℕ) → D ≡ byte b 2 → Wrote o at (answerText D a) o′ r
-      → Obeyed b o at m b′ o′ r
-  printed x g D d w = (rw (e, sym x, sym d) w, rw e g)
+-- m, the command of the line l, is n
+module _ (b o : List ℕ) (at : ℕ) (l : List ℕ) (m n : Command) (p : callOf l m ≡ parseOf l) (e : m ≡ n)
+    (b′ o′ : List ℕ) (r : ℕ) (a : Answer) where
+  read : callOf l n ≡ parseOf l
+  read = ap (callOf l) (sym e) ∙ p
 
-  pub printed-any : a ≡ answerOf b (callOf n) → b′ ≡ commandBook b n → ((D : ℕ) → Wrote o at (answerText D a) o′ r)
-      → Obeyed b o at m b′ o′ r
+  pub printed : a ≡ answerOf b (callOf l n) → b′ ≡ bookOf b (callOf l n) → (D : ℕ) → D ≡ byte b 2 → Wrote o at (answerText D a) o′ r
+      → Obeyed b o at l b′ o′ r
+  unfolding lineText lineBook
+  printed x g D d w =
+      let y : a ≡ answerOf b (parseOf l) = x ∙ ap (answerOf b) read in
+      (subst (λ s. Wrote o at s o′ r) (λ i. answerText (d i) (y i)) w, g ∙ ap (bookOf b) read)
+
+  pub printed-any : a ≡ answerOf b (callOf l n) → b′ ≡ bookOf b (callOf l n) → ((D : ℕ) → Wrote o at (answerText D a) o′ r)
+      → Obeyed b o at l b′ o′ r
   printed-any x g w = printed x g (byte b 2) refl (w (byte b 2))
 
 pub blind : Blind answering
 unfolding lineText lineBook
-blind =
-    record {
-      says = λ b l. ap (commandText b) (kept-enough l);
-      leaves = λ b l. ap (commandBook b) (kept-enough l);
-    }
+blind = record { says = λ b l. ap (callText b) (kept-enough l); leaves = λ b l. ap (bookOf b) (kept-enough l) }
 
-pub bad-line : (b l : List ℕ) → parseOf l ≡ Bad → (lineText b l ≡ ascii "017" ++ (10 ∷ [])) × (lineBook b l ≡ b)
+pub bad-line : (b l : List ℕ) → parseOf l ≡ none → (lineText b l ≡ ascii "017" ++ (10 ∷ [])) × (lineBook b l ≡ b)
 unfolding lineText lineBook
-bad-line b l e = (rw (lineText, e), rw (lineBook, e))
+bad-line b l e = (ap (callText b) e, ap (bookOf b) e)
 
 pub long-line : (b l : List ℕ) → 64 < length l → (lineText b l ≡ ascii "017" ++ (10 ∷ [])) × (lineBook b l ≡ b)
 long-line b l h = bad-line b l (long-bad l (omega arith))
 
 pub no-line : (b : List ℕ) → (lineText b [] ≡ ascii "017" ++ (10 ∷ [])) × (lineBook b [] ≡ b)
-unfolding choose verbs
-no-line b = bad-line b [] (sift [] 0 refl)
+unfolding choose verbs pictureOf opens allBelow shaped allOf
+no-line b = bad-line b [] (sift [])
 
-pub line-no-event : (b l : List ℕ) → answerOf b (callOf (parseOf l)) .number ≡ number NoEvent → ⊥
-line-no-event b l = go (callOf (parseOf l))
+pub line-no-event : (b l : List ℕ) → answerOf b (parseOf l) .number ≡ number NoEvent → ⊥
+line-no-event b l = go (parseOf l)
   where
     go : (o : Option Call) → answerOf b o .number ≡ number NoEvent → ⊥
     go none e = absurd (omega arith)

@@ -2,8 +2,7 @@
 -- Assumes nothing.
 --   answerOf b o     what a call is answered on the book b; for no call BadLine
 --   bookOf b o       the book after a call; for no call the same book
---   commandText b c  what a command prints on the book b
---   commandBook b c  the book after a command
+--   callText b o     what a call prints on the book b; for no call what a BadLine prints
 --   lineText b l     what a line of bytes prints on the book b
 --   lineBook b l     the book after a line
 --   answering        both, as a stream of lines has them
@@ -16,8 +15,7 @@ use Rattle.rules.specs.Calls.{Call}
 use Rattle.book.specs.Codec.{decode}
 use Rattle.book.specs.Answers.{answerTo, bookAfter}
 use Rattle.text.specs.Stream.{Answers}
-use Rattle.commands.specs.declared.Command.{Command}
-use Rattle.commands.specs.Lines.{parseOf, callOf}
+use Rattle.commands.specs.Lines.{parseOf}
 use Rattle.replies.specs.Print.{answerText}
 
 abbrev pub answerOf : List ℕ → Option Call → Answer
@@ -28,17 +26,14 @@ abbrev pub bookOf : List ℕ → Option Call → List ℕ
 bookOf b none = b
 bookOf b (some c) = bookAfter b c
 
-abbrev pub commandText : List ℕ → Command → List ℕ
-commandText b c = answerText (decode b .setup .desks) (answerOf b (callOf c))
-
-abbrev pub commandBook : List ℕ → Command → List ℕ
-commandBook b c = bookOf b (callOf c)
+abbrev pub callText : List ℕ → Option Call → List ℕ
+callText b o = answerText (decode b .setup .desks) (answerOf b o)
 
 unfoldable pub lineText : List ℕ → List ℕ → List ℕ
-lineText b l = commandText b (parseOf l)
+lineText b l = callText b (parseOf l)
 
 unfoldable pub lineBook : List ℕ → List ℕ → List ℕ
-lineBook b l = commandBook b (parseOf l)
+lineBook b l = bookOf b (parseOf l)
 
 abbrev pub answering : Answers
 answering = record { says = lineText; leaves = lineBook }

@@ -6,26 +6,33 @@
 --   Past vs n l   the first n verbs do not decide: the others do
 --   chosen        the first verb decides where the line has its shape; its numbers end the line
 --   passed        the others decide where it has not
---   sift          of all verbs, those decide whose lines are as long as the line and open as it does
---   long-bad      no verb has a line over 64 bytes
+--   pictured      a line of at most 64 bytes that has the shape of picture asks for a picture of its slots
+--   not-pictured  it asks for no call where it has not
+--   wished-call   an event's command by its last number asks for the call that this number wishes for
+--   sift          of all verbs, those decide whose word opens the line
+--   long-bad      a line over 64 bytes asks for no call
 --   kept-enough   the bytes of a line that are kept tell as much as the whole
 use Prim.Native.Nat.{ℕ, _+_, _*_, _-_, _<_, _≤_}
 use mathlib.Core.Path.{_≡_, refl, sym, ap, _∙_}
-use mathlib.Core.Bool.{Bool, true, false, _&&_, true≢false}
+use mathlib.Core.Bool.{Bool, true, false}
 use mathlib.Core.List.{List, [], _∷_}
+use mathlib.Core.Option.{none, some}
 use mathlib.Core.Logic.{⊎-elim}
 use native.Mathlib.Omega.{arith}
-use borrow.Author.Tests.{eqb-true, ltb-false, ne-eqb}
+use borrow.Author.Tests.{eqb-true, ltb-false, le-leb, lt-leb, ne-eqb}
 use lib.Dec.{eqb, ltb}
 use lib.ListN.{length, take, drop}
 use lib.Seq.{take-all, length-take-le}
-use Rattle.tools.specs.Tests.{pick, allOf}
-use Rattle.tools.proofs.Tests.{each, not-each, all-at, lt-or-le}
-use Rattle.text.specs.Words.{opens}
+use Rattle.tools.specs.Tests.{pick}
+use Rattle.tools.proofs.Tests.{each, not-each, all-at, lt-or-le, pick-ap}
+use Rattle.text.specs.Words.{ascii, opens}
 use Rattle.text.specs.Digits.{isNumber, numbersAt}
 use Rattle.text.specs.Stream.{most}
-use Rattle.commands.specs.declared.Command.the-variants.{Bad}
-use Rattle.commands.specs.Lines.{shaped, Verb, verbs, choose, parseOf}
+use Rattle.rules.specs.Model.{Act}
+use Rattle.rules.specs.Calls.{on}
+use Rattle.commands.specs.declared.Command.{Command}
+use Rattle.commands.specs.declared.Command.the-variants.{Picture, Bad}
+use Rattle.commands.specs.Lines.{shaped, Verb, wish, verbs, slotCount, pictureOf, choose, parseOf, callOf}
 
 pub sized : (l w : List ℕ) (n : ℕ) → shaped l w n ≡ true → length l ≡ length w + 4 * n
 unfolding shaped
@@ -53,6 +60,23 @@ module _ (v : Verb) (vs : List Verb) (l : List ℕ) {t : Bool} (e : t ≡ shaped
   unfolding choose
   passed h = rw (choose, sym e ∙ h)
 
+-- n slots by the line's length, and a test that says whether the line is one of picture
+module _ (l : List ℕ) (n : ℕ) {t : Bool} (h : length l ≤ 64) (e : n ≡ slotCount l) (q : t ≡ shaped l (ascii "picture") n) where
+  pub pictured : t ≡ true → callOf l (Picture n) ≡ pictureOf l
+  unfolding pictureOf
+  pictured s = rw (pictureOf, le-leb (length l) 64 h, ← e, sym q ∙ s)
+
+  pub not-pictured : t ≡ false → callOf l Bad ≡ pictureOf l
+  unfolding pictureOf
+  not-pictured s = rw (pictureOf, le-leb (length l) 64 h, ← e, sym q ∙ s)
+
+-- a command m of a yes or no, and r what its last number makes of it
+pub wished-call : (l : List ℕ) (q : ℕ) (c : Bool → Act) (m r : Command)
+    → r ≡ pick (ltb 1 q) Bad m
+    → callOf l m ≡ some (on (c (eqb q 1)))
+    → callOf l r ≡ wish q c
+wished-call l q c m r e h = ap (callOf l) e ∙ pick-ap (callOf l) (ltb 1 q) Bad m ∙ ap (pick (ltb 1 q) none) h
+
 -- how long a verb's lines are
 abbrev pub size : Verb → ℕ
 size v = length (v .word) + 4 * v .count
@@ -76,26 +100,18 @@ module _ (l : List ℕ) (p : Verb → Bool) (no : (v : Verb) → p v ≡ false �
       go true e ih = ap (pick (shaped l (v .word) (v .count)) _) ih
       go false e ih = rw (choose, no v e) ih
 
--- a verb's lines have n bytes, as l has, and open as it does
-abbrev pub alike : List ℕ → ℕ → Verb → Bool
-alike l n v = eqb n (size v) && opens l (v .word)
+pub sift : (l : List ℕ) → parseOf l ≡ choose (sifted (λ v. opens l (v .word)) verbs) l
+unfolding parseOf shaped
+sift l = sift-by l (λ v. opens l (v .word)) (λ v h. not-each _ 1 h) verbs
 
-pub sift : (l : List ℕ) (n : ℕ) → length l ≡ n → parseOf l ≡ choose (sifted (alike l n) verbs) l
-unfolding parseOf shaped allOf
-sift l n e = sift-by l (alike l n) (λ v h. rw e (go (eqb n (size v)) (opens l (v .word)) _ h)) verbs
-  where
-    go : (t u w : Bool) → (t && u) ≡ false → (t && (u && w)) ≡ false
-    go true true w h = absurd (true≢false h)
-    go true false w h = refl
-    go false u w h = refl
-
-pub long-bad : (l : List ℕ) → 64 < length l → parseOf l ≡ Bad
-unfolding parseOf choose verbs shaped
+pub long-bad : (l : List ℕ) → 64 < length l → parseOf l ≡ none
+unfolding parseOf choose verbs shaped pictureOf
 long-bad l h =
     sift-by l (λ v. ltb 64 (size v))
     (λ v q.
     let s : size v ≤ 64 = ltb-false _ _ q in
     not-each _ 0 (ne-eqb (length l) (size v) (λ e. omega arith))) verbs
+    ∙ rw (pictureOf, lt-leb (length l) 64 h)
 
 pub kept-enough : (l : List ℕ) → parseOf (take most l) ≡ parseOf l
 kept-enough l =

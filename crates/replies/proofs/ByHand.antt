@@ -12,6 +12,8 @@ use mathlib.Core.List.{[], _∷_, _++_}
 use Rattle.tools.specs.Tables.{put}
 use Rattle.ring.specs.Phases.{Pair}
 use Rattle.rules.specs.declared.Relation.the-variants.{Concurrent}
+use Rattle.rules.specs.declared.Pictured.the-variants as Pictures
+use Rattle.rules.specs.Replies.{picturedSays}
 use Rattle.rules.specs.Model.{Row, zeros, nothing, made, says, relates, Answer, refusal, accepted}
 use Rattle.text.specs.Words.{ascii}
 use Rattle.replies.specs.Print.{pairs, answerText}
@@ -34,6 +36,8 @@ pub record AnswerLines : Type 0 where
   pub yes : Line (accepted (says true)) "000 yes"
   pub no : Line (accepted (says false)) "000 no"
   pub word : Line (accepted (relates Concurrent)) "000 concurrent"
+  pub picture : Line (picturedSays Pictures.Yes) "000 yes"
+  pub odds : Line (picturedSays (Pictures.Odds 2 7)) "000 002 007"
   pub start : Line (accepted nothing) "000"
   pub refused : Line (refusal 11) "011"
 
@@ -49,6 +53,8 @@ answer-lines =
       yes = refl;
       no = refl;
       word = refl;
+      picture = refl;
+      odds = refl;
       start = refl;
       refused = refl;
     }

@@ -6,6 +6,7 @@
 --   stampText D o r   the owner and D pairs
 --   wordText w        a space and the relation in words
 --   verdictText t     a space and yes or no
+--   oddsText o        the two desks at odds, the lower one first
 --   then s f o        the text s, and behind it f of what o holds, if it holds something
 --   answerText D a    the line in a book of D desks: the number, then each part of the value that is there
 --   longest           the bytes of the longest line: number, owner, eight pairs, a place or a number of desks, slot and newline
@@ -19,7 +20,7 @@ use Rattle.text.specs.Words.{ascii}
 use Rattle.text.specs.Put.{three, field}
 use Rattle.rules.specs.declared.Relation.{Relation}
 use Rattle.rules.specs.declared.Relation.the-variants.{Before, After, Same, Concurrent, Crossed}
-use Rattle.rules.specs.Model.{Row, Label, Answer}
+use Rattle.rules.specs.Model.{Row, Label, Odds, Answer}
 
 abbrev pub pair : ℕ → ℕ → List ℕ
 pair p c = field p ++ 46 ∷ three c
@@ -42,6 +43,9 @@ abbrev pub verdictText : Bool → List ℕ
 verdictText true = ascii " yes"
 verdictText false = ascii " no"
 
+abbrev pub oddsText : Odds → List ℕ
+oddsText o = field (o .lower) ++ field (o .higher)
+
 abbrev pub then : {A : Type 0} → List ℕ → (A → List ℕ) → Option A → List ℕ
 then s f none = s
 then s f (some a) = s ++ f a
@@ -54,7 +58,8 @@ answerText D a =
     let learnt = then stamped field (a .value .learnt) in
     let kept = then learnt field (a .value .slot) in
     let told = then kept verdictText (a .value .verdict) in
-    then told wordText (a .value .relation) ++ (10 ∷ [])
+    let related = then told wordText (a .value .relation) in
+    then related oddsText (a .value .odds) ++ (10 ∷ [])
 
 abbrev pub longest : ℕ
 longest = 80

@@ -4,11 +4,12 @@ ghost use Prim.Native.Nat.{ℕ, _+_, _≤_};
 ghost use mathlib.Core.List.{[]};
 ghost use lib.ListN.{length};
 ghost use Rattle.text.specs.Put.{Wrote, field};
-ghost use Rattle.rules.specs.Model.{refusal, accepted, relates};
-ghost use Rattle.rules.specs.Replies.{rowOf, slotIn, stampedSays, receivedSays, postedSays, toldSays, comparedSays};
+ghost use Rattle.rules.specs.Model.{refusal, accepted, relates, names};
+ghost use Rattle.rules.specs.Replies.{rowOf, slotIn, stampedSays, receivedSays, postedSays, toldSays, comparedSays, picturedSays};
 ghost use Rattle.replies.specs.Print.{pair, pairs, stampText, then, answerText, longest, Printable};
 use rules::Compared;
 use rules::Kept;
+use rules::Pictured;
 use rules::Posted;
 use rules::Received;
 use rules::Relation;
@@ -171,5 +172,28 @@ pub fn put_compared(out: &mut [u8], at: usize, r: Compared) -> usize
     match r {
         Compared::Is(w) => put_relation(out, at, w),
         Compared::Refused(n) => put_number(out, at, n),
+    }
+}
+
+// The line of two desks at odds.
+fn put_odds(out: &mut [u8], at: usize, lower: u8, higher: u8) -> usize
+    requires { ⌜ at + 12 ≤ length (now out) ⌝ }
+    ensures { λ n. ⌜ ((D : ℕ) → Wrote (now (out .entry)) at (answerText D (accepted (names lower higher))) (now (out .exit)) n) ⌝ }
+{
+    let a = text::put_three(out, at, rules::DONE);
+    let b = put_field(out, a, lower);
+    let c = put_field(out, b, higher);
+    text::put_byte(out, c, b'\n')
+}
+
+// The line of an answer to picture.
+pub fn put_pictured(out: &mut [u8], at: usize, r: Pictured) -> usize
+    requires { ⌜ at + 12 ≤ length (now out) ⌝ }
+    ensures { λ n. ⌜ ((D : ℕ) → Wrote (now (out .entry)) at (answerText D (picturedSays r)) (now (out .exit)) n) ⌝ }
+{
+    match r {
+        Pictured::Yes => put_told(out, at, Told::Yes),
+        Pictured::Odds(lower, higher) => put_odds(out, at, lower, higher),
+        Pictured::Refused(n) => put_number(out, at, n),
     }
 }

@@ -68,7 +68,7 @@ pub fn number(line: &[u8], at: usize) -> usize
 
 // Whether numbers of exactly three digits, with single spaces, stand one after the other from a place on.
 pub fn are_numbers(line: &[u8], from: usize, n: usize) -> bool
-    requires { ⌜ (from + 4 * n ≤ length (now line)) × (n ≤ 7) ⌝ }
+    requires { ⌜ (from + 4 * n ≤ length (now line)) × (n ≤ 14) ⌝ }
     ensures { λ r. ⌜ r ≡ allBelow n (λ i. isNumber (now (line .entry)) (from + 4 * i)) ⌝ }
 {
     let mut i: usize = 0;

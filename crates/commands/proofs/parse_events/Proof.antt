@@ -1,12 +1,13 @@
 -- `commands::parse_events` meets its contract. Assumes nothing.
 use Prim.Native.Nat.{ℕ}
-use mathlib.Core.Path.{sym, _∙_}
+use mathlib.Core.Path.{refl, sym, _∙_}
 use mathlib.Core.List.{List, _++_}
 use native.Mathlib.Omega.{arith}
 use borrow.Author.Needs.{needs}
 use Rattle.tools.specs.Lists.{tab}
+use Rattle.rules.specs.Model.{local, send, receive, reset}
 use Rattle.commands.specs.Lines.{questions, filings, events}
-use Rattle.commands.proofs.Shapes.{Past, fits, chosen, passed}
+use Rattle.commands.proofs.Shapes.{Past, fits, chosen, passed, wished-call}
 use Rattle.commands.proofs.parse_events.Statement.{statement}
 use Rattle.commands.proofs.parse_events.Tie as tie
 
@@ -29,7 +30,7 @@ returns : tie.Need-returns
 unfolding tab
 returns c =
     let t = c .before .before .before in
-    c .wished .ensures
+    wished-call _ (c .before .before .number .result) (local (c .before .number2 .result)) _ _ (c .wished .ensures) refl
     ∙ rw (c .before .before .number .ensures, c .before .number2 .ensures)
     (sym (chosen _ _ _ (t .before .is-line .ensures) (t .if1 .taken)))
 
@@ -37,7 +38,8 @@ returns-2 : tie.Need-returns-2
 unfolding tab
 returns-2 c =
     let t = c .before .before .before .before in
-    c .wished2 .ensures
+    wished-call _ (c .before .before .before .number3 .result) (send (c .before .before .number4 .result) (c .before .number5 .result))
+    _ _ (c .wished2 .ensures) refl
     ∙ rw (c .before .before .before .number3 .ensures, c .before .before .number4 .ensures, c .before .number5 .ensures)
     (sym (past-1 (t .before .before .before) ∙ chosen _ _ _ (t .before .is-line2 .ensures) (t .if2 .taken)))
 
@@ -45,7 +47,8 @@ returns-3 : tie.Need-returns-3
 unfolding tab
 returns-3 c =
     let t = c .before .before .before .before in
-    c .wished3 .ensures
+    wished-call _ (c .before .before .before .number6 .result) (receive (c .before .before .number7 .result) (c .before .number8 .result))
+    _ _ (c .wished3 .ensures) refl
     ∙ rw (c .before .before .before .number6 .ensures, c .before .before .number7 .ensures, c .before .number8 .ensures)
     (sym (past-2 (t .before .before .before) ∙ chosen _ _ _ (t .before .is-line3 .ensures) (t .if3 .taken)))
 
@@ -53,7 +56,7 @@ returns-4 : tie.Need-returns-4
 unfolding tab
 returns-4 c =
     let t = c .before .before .before in
-    c .wished4 .ensures
+    wished-call _ (c .before .before .number9 .result) (reset (c .before .number10 .result)) _ _ (c .wished4 .ensures) refl
     ∙ rw (c .before .before .number9 .ensures, c .before .number10 .ensures)
     (sym (past-3 (t .before .before .before) ∙ chosen _ _ _ (t .before .is-line4 .ensures) (t .if4 .taken)))
 

@@ -35,7 +35,7 @@ returns-2 c =
 
 returns-3 : tie.Need-returns-3
 unfolding choose
-returns-3 c = sym (past-2 c)
+returns-3 c = c .parse-picture .ensures ∙ sym (past-2 (c .before))
 
 pub parse-questions-spec : {M : Type 1} → statement M
 parse-questions-spec =
@@ -48,4 +48,4 @@ parse-questions-spec =
     (λ c. search needs) (λ c κs. search needs)
     (λ c κs. (omega arith, fits _ _ _ _ (c .before .is-line2 .ensures) (c .if2 .taken) (omega arith)))
     (λ c κs. (omega arith, fits _ _ _ _ (c .before .before .is-line2 .ensures) (c .before .if2 .taken) (omega arith)))
-    returns-2 returns-3)
+    returns-2 (λ c κs. search needs) returns-3)
