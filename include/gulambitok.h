@@ -6,8 +6,9 @@
  *
  * The caller need check nothing beforehand: a book may hold any bytes, and numbers of a setup and
  * of desks, places and slots may be any. Two things no call can check, and the caller owes them:
- * a length is the number of bytes truly lent (0 may go with a null pointer), and a buffer that a
- * call writes overlaps no other buffer of that call and is used by nobody else until it returns.
+ * a length is the number of bytes truly lent, or of slots in a list (0 may go with a null pointer),
+ * and a buffer that a call writes overlaps no other buffer of that call and is used by nobody else
+ * until it returns.
  *
  * The buffers stay the caller's: no call keeps a pointer, allocates or remembers anything.
  */
@@ -28,7 +29,7 @@ enum {
     GULAMBITOK_BAD_SETUP = 2,     /* a setup number or inequality fails */
     GULAMBITOK_NO_DESK = 3,       /* a desk number is D or more */
     GULAMBITOK_SAME_DESK = 4,     /* send to oneself */
-    GULAMBITOK_NO_PLACE = 5,      /* place or slot above 31, or free */
+    GULAMBITOK_NO_PLACE = 5,      /* place or slot above 31, or free; for picture, not D slots */
     GULAMBITOK_NOT_YOURS = 6,     /* mail addressed to another desk */
     GULAMBITOK_NO_EVENT = 7,      /* never given */
     GULAMBITOK_PHASE_FULL = 8,    /* local, send or receive at own clock L-1 */
@@ -40,7 +41,8 @@ enum {
     GULAMBITOK_BAD_STAMP = 14,    /* a stamp record does not read */
     GULAMBITOK_NO_ROOM = 15,      /* a buffer is too short for what the call would write there */
     GULAMBITOK_OUT_OF_REACH = 16, /* comparison beyond reach */
-    GULAMBITOK_BAD_LINE = 17      /* the program desks only */
+    GULAMBITOK_BAD_LINE = 17,     /* the program desks only */
+    GULAMBITOK_WRONG_OWNER = 18   /* picture; the slot given for a desk holds another desk's stamp */
 };
 
 /* What compare writes. */
@@ -66,6 +68,7 @@ enum {
     GULAMBITOK_RECORD_BYTES = 20, /* a seat, a mail place or a shelf slot */
     GULAMBITOK_ROW_BYTES = 16,    /* for each of eight desks its phase, then its clock */
     GULAMBITOK_STAMP_BYTES = 20,
+    GULAMBITOK_ODDS_BYTES = 2,    /* the two desks that picture finds at odds */
     GULAMBITOK_SEATS = 8,
     GULAMBITOK_PLACES = 32,
     GULAMBITOK_SLOTS = 32
@@ -158,6 +161,17 @@ uint8_t gulambitok_before(const uint8_t *book, size_t book_len, size_t first, si
  * crossed. It needs both ways within reach. Refusals: 1, 5, 15, 16. */
 uint8_t gulambitok_compare(const uint8_t *book, size_t book_len, size_t first, size_t second,
                            uint8_t *answer, size_t answer_len);
+
+/* Picture asks whether the portal could have stood where one kept stamp for each desk shows it. It
+ * is given a list of exactly D slots, the i-th for desk i; they are numbers as wide as any other, so
+ * 256 is not slot 0. Two desks are at odds when the stamp of one knows of a later event at the
+ * other's desk than the other's own stamp. Writes 1 when no two are, and leaves odds as it was; else
+ * 0, and into odds the two desks, a byte each, the lower first: of all that are at odds those with
+ * the lowest first, then the lowest second. Odds must have its two bytes either way. Every two of
+ * the stamps have to be within reach of each other, both ways. Refusals: 1, 5, 15, 16, 18. */
+uint8_t gulambitok_picture(const uint8_t *book, size_t book_len, const size_t *slots,
+                           size_t slots_len, uint8_t *answer, size_t answer_len, uint8_t *odds,
+                           size_t odds_len);
 
 /* Show copies the sixteen row bytes of a slot. Refusals: 1, 5, 15. */
 uint8_t gulambitok_show(const uint8_t *book, size_t book_len, size_t slot, uint8_t *row, size_t row_len);

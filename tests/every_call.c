@@ -9,7 +9,7 @@
 struct lent {
     uint8_t book[GULAMBITOK_BOOK_BYTES], stamp[GULAMBITOK_STAMP_BYTES + 1], place[2], slot[2];
     uint8_t learnt[2], answer[2], row[GULAMBITOK_ROW_BYTES + 1], first[GULAMBITOK_STAMP_BYTES + 1];
-    uint8_t second[GULAMBITOK_STAMP_BYTES];
+    uint8_t second[GULAMBITOK_STAMP_BYTES], odds[GULAMBITOK_ODDS_BYTES + 1];
 };
 
 static struct lent now, was;
@@ -47,6 +47,7 @@ static void start(void)
     REFUSED(BAD_SETUP, gulambitok_start(BOOK, 256 + 3, 5, 4, 2, 4, 2, 2));
     REFUSED(BAD_SETUP, gulambitok_start(BOOK, 3, 5, 4, 2, 4, 3, 3));
     REFUSED(BAD_BOOK, gulambitok_local(BOOK, 0, 1, now.stamp, 20, now.slot, 1));
+    REFUSED(BAD_BOOK, gulambitok_picture(BOOK, NULL, 0, now.answer, 1, now.odds, 2));
     DONE(gulambitok_start(BOOK, 3, 5, 4, 2, 4, 3, 2));
     DONE(gulambitok_start(BOOK, X));
     EXPECT(memcmp(now.book, "BK\3\5\4\2\4\2\2\0\0\0\0\0\0\0SE", 18) == 0);
@@ -232,6 +233,158 @@ static void mail_that_tells_nothing(void)
     EXPECT(learnt(1, 2) == 0 && memcmp(now.stamp, "ST\1\3\1\1\0\4", 8) == 0);
 }
 
+static void keep_local(size_t desk, uint8_t slot)
+{
+    DONE(gulambitok_local(BOOK, desk, 1, now.stamp, 20, now.slot, 1));
+    EXPECT(now.slot[0] == slot);
+}
+
+static void keep_reset(size_t desk, uint8_t slot)
+{
+    DONE(gulambitok_reset(BOOK, desk, 1, now.stamp, 20, now.slot, 1));
+    EXPECT(now.slot[0] == slot);
+}
+
+/* The mail waits in place 0. */
+static void keep_send(size_t desk, size_t to, uint8_t slot)
+{
+    DONE(gulambitok_send(BOOK, desk, to, 1, now.stamp, 20, now.place, 1, now.slot, 1));
+    EXPECT(now.place[0] == 0 && now.slot[0] == slot);
+}
+
+static void keep_receive(size_t desk, uint8_t slot)
+{
+    DONE(gulambitok_receive(BOOK, desk, 0, 1, now.stamp, 20, now.learnt, 1, now.slot, 1));
+    EXPECT(now.slot[0] == slot);
+}
+
+/* Every byte lent is as it was but for what is told; that is spoilt, so that the next call has to write it. */
+static void pictured(const char *what, uint8_t answer)
+{
+    expect(what, answer == GULAMBITOK_DONE && memcmp(&now, &was, sizeof now) == 0);
+    memset(now.answer, 0xEE, sizeof now.answer);
+    memset(now.odds, 0xEE, sizeof now.odds);
+    was = now;
+}
+
+static void yes(const char *what, uint8_t answer)
+{
+    was.answer[0] = 1;
+    pictured(what, answer);
+}
+
+static void at_odds(const char *what, uint8_t answer, uint8_t lower, uint8_t higher)
+{
+    was.answer[0] = 0;
+    was.odds[0] = lower;
+    was.odds[1] = higher;
+    pictured(what, answer);
+}
+
+#define SLOTS(...) (const size_t[]){__VA_ARGS__}, sizeof (const size_t[]){__VA_ARGS__} / sizeof(size_t)
+#define PICTURE(...) gulambitok_picture(BOOK, SLOTS(__VA_ARGS__), now.answer, 1, now.odds, 2)
+#define YES(call) yes(#call, call)
+#define AT_ODDS(lower, higher, call) at_odds(#call, call, lower, higher)
+
+/* Under L=40. In slots 1, 2 and 7 desk 0 is at 0.1, at 0.2 and, with 0.3 of desk 2, at 0.3; in slots 3
+ * and 5 desk 1 is at 0.1 and 0.2, with 0.2 of desk 0, and in slot 5 0.2 of desk 2; in slots 0, 4 and 6
+ * desk 2 is at 0.1, 0.2 and 0.3. */
+static void picture(void)
+{
+    DONE(gulambitok_start(BOOK, 3, 5, 40, 2, 4, 2, 2));
+    memset(now.answer, 0xEE, sizeof now.answer);
+    was = now;
+    keep_local(2, 0);
+    keep_local(0, 1);
+    keep_send(0, 1, 2);
+    keep_receive(1, 3);
+    keep_send(2, 1, 4);
+    keep_receive(1, 5);
+    keep_send(2, 0, 6);
+    keep_receive(0, 7);
+    YES(PICTURE(2, 3, 0));
+    AT_ODDS(0, 1, PICTURE(1, 3, 0));
+    AT_ODDS(1, 2, PICTURE(2, 5, 0));
+    AT_ODDS(0, 1, PICTURE(1, 5, 0));
+    AT_ODDS(0, 2, PICTURE(7, 5, 0));
+    AT_ODDS(0, 2, PICTURE(7, 5, 4));
+    YES(PICTURE(7, 5, 6));
+    YES(gulambitok_picture(BOOK, SLOTS(7, 5, 6), now.answer, 2, now.odds, 3));
+    AT_ODDS(0, 1, gulambitok_picture(BOOK, SLOTS(1, 3, 0), now.answer, 2, now.odds, 3));
+}
+
+/* Of the same book. 256 cut to a byte would be slot 0, and 258 slot 2. */
+static void picture_refused(void)
+{
+    REFUSED(BAD_BOOK, gulambitok_picture(now.book, sizeof now.book - 1, NULL, 0, NULL, 0, NULL, 0));
+    REFUSED(NO_PLACE, gulambitok_picture(BOOK, NULL, 0, now.answer, 1, now.odds, 2));
+    REFUSED(NO_PLACE, PICTURE(2, 3));
+    REFUSED(NO_PLACE, PICTURE(2, 3, 0, 0));
+    REFUSED(NO_PLACE, PICTURE(2, 3, 0, 1, 4, 5, 6, 7));
+    REFUSED(NO_PLACE, PICTURE(8, 3, 0));
+    REFUSED(NO_PLACE, PICTURE(2, 31, 0));
+    REFUSED(NO_PLACE, PICTURE(2, 3, 32));
+    REFUSED(NO_PLACE, PICTURE(2, 3, 256));
+    REFUSED(NO_PLACE, PICTURE(258, 3, 0));
+    REFUSED(NO_PLACE, gulambitok_picture(BOOK, NULL, 0, NULL, 0, NULL, 0));
+    REFUSED(NO_PLACE, gulambitok_picture(BOOK, SLOTS(2, 3, 8), now.answer, 0, now.odds, 1));
+    REFUSED(NO_PLACE, PICTURE(3, 2, 8));
+    REFUSED(NO_ROOM, gulambitok_picture(BOOK, SLOTS(2, 3, 0), now.answer, 0, now.odds, 2));
+    REFUSED(NO_ROOM, gulambitok_picture(BOOK, SLOTS(2, 3, 0), now.answer, 1, now.odds, 1));
+    REFUSED(NO_ROOM, gulambitok_picture(BOOK, SLOTS(2, 3, 0), now.answer, 1, NULL, 0));
+    REFUSED(NO_ROOM, gulambitok_picture(BOOK, SLOTS(1, 3, 0), NULL, 0, now.odds, 2));
+    REFUSED(NO_ROOM, gulambitok_picture(BOOK, SLOTS(1, 3, 0), now.answer, 1, now.odds, 1));
+    REFUSED(NO_ROOM, gulambitok_picture(BOOK, SLOTS(3, 2, 0), now.answer, 1, now.odds, 1));
+    REFUSED(WRONG_OWNER, PICTURE(3, 2, 0));
+    REFUSED(WRONG_OWNER, PICTURE(2, 3, 3));
+    REFUSED(WRONG_OWNER, PICTURE(2, 2, 0));
+}
+
+/* Of the same book: desk 1's reset to 1.0 goes to slot 8, what desk 0 heard, 0.4 1.1 0.3, to slot 9, desk
+ * 1's reset to 2.0 to slot 10 and its local 2.1 to slot 11. Slots 5 and 6 know desk 1 at 0.2 and 0.0. */
+static void picture_after_resets(void)
+{
+    keep_reset(1, 8);
+    mail(1, 0);
+    keep_receive(0, 9);
+    AT_ODDS(0, 1, PICTURE(9, 5, 6));
+    AT_ODDS(0, 1, PICTURE(9, 8, 6));
+    keep_reset(1, 10);
+    keep_local(1, 11);
+    YES(PICTURE(9, 10, 6));
+    REFUSED(OUT_OF_REACH, PICTURE(9, 11, 6));
+    REFUSED(OUT_OF_REACH, PICTURE(11, 9, 6));
+    REFUSED(OUT_OF_REACH, PICTURE(9, 10, 5));
+    REFUSED(NO_ROOM, gulambitok_picture(BOOK, SLOTS(9, 11, 6), now.answer, 0, now.odds, 2));
+    REFUSED(NO_ROOM, gulambitok_picture(BOOK, SLOTS(11, 9, 6), now.answer, 1, now.odds, 1));
+    REFUSED(NO_PLACE, PICTURE(9, 11, 12));
+    REFUSED(WRONG_OWNER, PICTURE(10, 10, 6));
+    DONE(gulambitok_drop(BOOK, 6));
+    REFUSED(NO_PLACE, PICTURE(9, 10, 6));
+}
+
+/* Of eight desks the last two are at odds once desk 7 has heard of desk 6 at 0.2, in slot 8. Desk 2, of
+ * desk 1, in slot 9, and desk 7, of desk 0, in slot 10, make more: 0 and 7 come before 1 and 2. */
+static void picture_of_eight(void)
+{
+    DONE(gulambitok_start(BOOK, 8, 5, 40, 2, 4, 2, 2));
+    for (uint8_t desk = 0; desk < 8; desk++)
+        keep_local(desk, desk);
+    YES(PICTURE(0, 1, 2, 3, 4, 5, 6, 7));
+    mail(6, 7);
+    keep_receive(7, 8);
+    AT_ODDS(6, 7, PICTURE(0, 1, 2, 3, 4, 5, 6, 8));
+    mail(1, 2);
+    keep_receive(2, 9);
+    AT_ODDS(1, 2, PICTURE(0, 1, 9, 3, 4, 5, 6, 8));
+    mail(0, 7);
+    keep_receive(7, 10);
+    AT_ODDS(0, 7, PICTURE(0, 1, 9, 3, 4, 5, 6, 10));
+    REFUSED(NO_PLACE, PICTURE(0, 1, 2, 3, 4, 5, 6));
+    REFUSED(NO_PLACE, PICTURE(0, 1, 2, 3, 4, 5, 6, 7, 8));
+    REFUSED(WRONG_OWNER, PICTURE(0, 1, 2, 3, 4, 5, 7, 6));
+}
+
 int main(void)
 {
     memset(&now, 0xEE, sizeof now);
@@ -245,5 +398,9 @@ int main(void)
     full_shelf();
     mail_that_tells_more();
     mail_that_tells_nothing();
+    picture();
+    picture_refused();
+    picture_after_resets();
+    picture_of_eight();
     return wrong;
 }

@@ -3,15 +3,16 @@
  *
  * A call is three bytes, its place in the header and how many numbers and buffers it is given; then
  * its numbers; then for each buffer its length, and the bytes lent with GUARD bytes on both sides.
- * Numbers and lengths are 64 bits as x86-64 has them. The answer is its number in one byte, then the
- * bytes of each buffer and its guards. It is flushed, so that a call that ends the program is known.
- * What does not read as a call ends it with 2.
+ * Numbers and lengths are 64 bits as x86-64 has them; a list of slots is a buffer of such numbers. The
+ * answer is its number in one byte, then the bytes of each buffer and its guards. It is flushed, so
+ * that a call that ends the program is known. What does not read as a call ends it with 2.
  */
 #include "gulambitok.h"
 
 #include <stdio.h>
 #include <stdlib.h>
 
+/* The guard is a whole count of numbers, so that a list begins where one may stand. */
 enum { GUARD = 24, NUMBERS = 7, BUFFERS = 4 };
 
 struct lent {
@@ -36,6 +37,7 @@ static void take_lent(struct lent *lent)
 
 #define SETUP n[0], n[1], n[2], n[3], n[4], n[5], n[6]
 #define LENT(i) lent[i].memory + GUARD, lent[i].length
+#define LIST(i) (const size_t *)(const void *)(lent[i].memory + GUARD), lent[i].length / sizeof(size_t)
 
 static uint8_t call(uint8_t place, const size_t *n, const struct lent *lent)
 {
@@ -49,11 +51,12 @@ static uint8_t call(uint8_t place, const size_t *n, const struct lent *lent)
     case 6: return gulambitok_discard(LENT(0), n[0]);
     case 7: return gulambitok_before(LENT(0), n[0], n[1], LENT(1));
     case 8: return gulambitok_compare(LENT(0), n[0], n[1], LENT(1));
-    case 9: return gulambitok_show(LENT(0), n[0], LENT(1));
-    case 10: return gulambitok_write(LENT(0), n[0], LENT(1));
-    case 11: return gulambitok_label_before(SETUP, LENT(0), LENT(1), LENT(2));
-    case 12: return gulambitok_label_compare(SETUP, LENT(0), LENT(1), LENT(2));
-    case 13: return gulambitok_label_newest(SETUP, LENT(0), LENT(1), LENT(2));
+    case 9: return gulambitok_picture(LENT(0), LIST(1), LENT(2), LENT(3));
+    case 10: return gulambitok_show(LENT(0), n[0], LENT(1));
+    case 11: return gulambitok_write(LENT(0), n[0], LENT(1));
+    case 12: return gulambitok_label_before(SETUP, LENT(0), LENT(1), LENT(2));
+    case 13: return gulambitok_label_compare(SETUP, LENT(0), LENT(1), LENT(2));
+    case 14: return gulambitok_label_newest(SETUP, LENT(0), LENT(1), LENT(2));
     }
     exit(2);
 }

@@ -5,12 +5,13 @@ use Prim.Native.Nat.{ℕ, _<_, _≤_}
 use mathlib.Core.Path.{_≡_, refl, sym, ap, _∙_, subst}
 use mathlib.Core.Bool.{Bool, true, false, _&&_, _||_, true≢false}
 use mathlib.Core.List.{List, [], _∷_}
-use borrow.Author.Tests.{ne-eqb, lt-ltb, le-ltb}
+use borrow.Author.Tests.{ne-eqb, lt-ltb, le-ltb, ltb-false}
 use lib.Dec.{eqb, ltb}
 use lib.ListN.{length}
 use native.Mathlib.Omega.{arith}
 use Rattle.tools.specs.Tests.{pick}
 use Rattle.tools.specs.Lists.{listed}
+use Rattle.tools.proofs.Tests.{or-false-l, or-false-r}
 use Rattle.rules.specs.declared.Stamp.{Stamp}
 use Rattle.rules.specs.declared.Stamped.{Stamped}
 use Rattle.rules.specs.declared.Received.{Received}
@@ -18,13 +19,15 @@ use Rattle.rules.specs.declared.Posted.{Posted}
 use Rattle.rules.specs.declared.Posted.the-variants as Posts
 use Rattle.rules.specs.declared.Told.{Told}
 use Rattle.rules.specs.declared.Compared.{Compared}
+use Rattle.rules.specs.declared.Pictured.{Pictured}
+use Rattle.rules.specs.declared.Pictured.the-variants as Pictures
 use Rattle.rules.specs.declared.Kept.{Kept}
 use Rattle.rules.specs.declared.Kept.the-variants as Keeps
-use Rattle.rules.specs.Model.{Value, nothing, Answer, refusal, accepted}
-use Rattle.rules.specs.Replies.{rowOf, slotIn, eventSays, stampedSays, receivedSays, postedSays, toldSays, comparedSays}
+use Rattle.rules.specs.Model.{Value, nothing, says, names, Answer, refusal, accepted}
+use Rattle.rules.specs.Replies.{rowOf, slotIn, eventSays, stampedSays, receivedSays, postedSays, toldSays, comparedSays, picturedSays}
 use Rattle.book.specs.Stamps.{writeStamp, filled}
 use Rattle.parts.proofs.Lent.{filled-none}
-use Rattle.door.specs.Door.{one, Lent, lent, placeTo, learntTo, slotTo, recordTo, short, orNoRoom, cramped}
+use Rattle.door.specs.Door.{one, Lent, lent, byteTo, placeTo, learntTo, oddsTo, slotTo, recordTo, short, orNoRoom, cramped}
 use Rattle.door.specs.Door.{Fills, Gets, Gives, GivesByte}
 
 -- the number with NoRoom as one more reason
@@ -141,6 +144,33 @@ pub short-slot : (q : Bool) (n : ℕ) → (q && ltb n 1) ≡ ltb n (pick q 1 0)
 short-slot true n = refl
 short-slot false n = sym (le-ltb n 0 (omega arith))
 
+-- picture, in a buffer for the answer and one for the two desks at odds
+module _ (x : Pictured) (t p : List ℕ) where
+  pub picture-short : (ltb (length p) 2 || ltb (length t) 1) ≡ true → (n : ℕ) → n ≡ picturedSays x .number
+      → (r : ℕ) → r ≡ cramped true (refusal n) .number → Gives (picturedSays x) (byteTo t t ∷ oddsTo p p ∷ []) r
+  picture-short q n e r h = no-room _ (picturedSays x) r q (h ∙ ap orNoRoom e) (search lending)
+
+  module _ (q : (ltb (length p) 2 || ltb (length t) 1) ≡ false) where
+    pub picture-refused : (n : ℕ) → x ≡ Pictures.Refused n → Gives (picturedSays x) (byteTo t t ∷ oddsTo p p ∷ []) n
+    picture-refused n e = rw e (has-room _ (refusal n) n q refl (search lending))
+
+    pub picture-yes : x ≡ Pictures.Yes → (l : List ℕ) → l ≡ filled t (1 ∷ [])
+        → Gives (picturedSays x) (byteTo t l ∷ oddsTo p p ∷ []) 0
+    picture-yes e l g =
+        let k = sym (filled-none p) in
+        rw e (has-room _ (accepted (says true)) 0 q refl (search lending))
+
+    pub picture-odds : (i k : ℕ) → x ≡ Pictures.Odds i k → (l o : List ℕ) → l ≡ filled t (0 ∷ []) → o ≡ filled p (i ∷ k ∷ [])
+        → Gives (picturedSays x) (byteTo t l ∷ oddsTo p o ∷ []) 0
+    picture-odds i k e l o g h = rw e (has-room _ (accepted (names i k)) 0 q refl (search lending))
+
+    -- each buffer has its room
+    pub answer-room : 1 ≤ length t
+    answer-room = ltb-false (length t) 1 (or-false-r (ltb (length p) 2) _ q)
+
+    pub odds-room : 2 ≤ length p
+    odds-room = ltb-false (length p) 2 (or-false-l (ltb (length p) 2) _ q)
+
 -- what an answer says, by its case
 pub told-as : (t u : Told) → t ≡ u → toldSays t ≡ toldSays u
 told-as t u e = ap toldSays e
@@ -155,4 +185,6 @@ pub ruleset cases = (told-as, compared-as, one-byte)
 
 pub ruleset stamps = (stamp-refused, stamp-given, received-refused, received-given, sent-refused, sent-given, no-slot, in-slot, slot-room)
 
-pub ruleset gave = (cases, stamps, room-lacks, room-enough, refused, byte-short, byte-given, byte-as, lending)
+pub ruleset pictures = (picture-short, picture-refused, picture-yes, picture-odds, answer-room, odds-room)
+
+pub ruleset gave = (cases, stamps, pictures, room-lacks, room-enough, refused, byte-short, byte-given, byte-as, lending)

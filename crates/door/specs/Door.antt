@@ -4,7 +4,8 @@
 --   relationByte r   the byte of a relation
 --   one n            the byte n
 --   wished n         whether a caller who gives the number n wishes to keep the stamp: 0 is no, any other yes
---   byteIn v         the one byte of the yes or no, or relation in a value
+--   byteIn v         the one byte of the yes or no, or relation in a value; 0 where it names two desks at odds
+--   oddsIn v         the bytes of the two desks at odds in a value, the lower one first; none where it names none
 --   placeIn v, learntIn v, slotByte v   the one byte of the place, of the number of desks learnt of, of the slot in a value; none
 --                    where it has none
 --   whichByte w      the byte of one of two records, or of neither
@@ -13,6 +14,7 @@
 --                    whole buffer is t before the call and t′ afterwards
 --   byteTo t t′, whichTo t t′, rowTo t t′   the buffer is lent for a byte, for the newest of two records, for sixteen row bytes
 --   placeTo t t′, learntTo t t′   the buffer is lent for a place, for the number of desks learnt of
+--   oddsTo t t′      the buffer is lent for two desks at odds
 --   slotTo q t t′    the buffer is lent for the slot of an event: it must have a byte where the event is to be kept, q
 --   recordTo D t t′  the buffer is lent for a stamp record with the number D of desks
 --   stampTo s t t′   the buffer is lent for a stamp record with the D of the book s
@@ -37,7 +39,7 @@ use Rattle.rules.specs.declared.Setup.{Setup}
 use Rattle.rules.specs.declared.Relation.{Relation}
 use Rattle.rules.specs.declared.Relation.the-variants.{Before, After, Same, Concurrent, Crossed}
 use Rattle.rules.specs.Numbers.{NoRoom, number}
-use Rattle.rules.specs.Model.{Value, nothing, Answer, refusal, accepted}
+use Rattle.rules.specs.Model.{Odds, Value, nothing, Answer, refusal, accepted}
 use Rattle.rules.specs.Calls.{Call}
 use Rattle.rules.specs.Labels.{Which, First, Second, Neither, newer}
 use Rattle.book.specs.Layout.{recordSize, rowSize}
@@ -63,7 +65,11 @@ abbrev pub wished : ℕ → Bool
 wished n = not (eqb n 0)
 
 abbrev pub byteIn : Value → List ℕ
-byteIn v = listed (λ t. one (pick t 1 0)) (v .verdict) ++ listed (λ r. one (relationByte r)) (v .relation)
+byteIn v =
+    listed (λ t. one (pick t 1 0)) (v .verdict) ++ listed (λ r. one (relationByte r)) (v .relation) ++ listed (λ o. one 0) (v .odds)
+
+abbrev pub oddsIn : Value → List ℕ
+oddsIn v = listed (λ (o : Odds). o .lower ∷ o .higher ∷ []) (v .odds)
 
 abbrev pub placeIn : Value → List ℕ
 placeIn v = listed one (v .place)
@@ -96,6 +102,9 @@ placeTo = lent 1 placeIn
 
 abbrev pub learntTo : List ℕ → List ℕ → Lent
 learntTo = lent 1 learntIn
+
+abbrev pub oddsTo : List ℕ → List ℕ → Lent
+oddsTo = lent 2 oddsIn
 
 abbrev pub slotTo : Bool → List ℕ → List ℕ → Lent
 slotTo q = lent (pick q 1 0) slotByte

@@ -12,12 +12,13 @@ ghost use Rattle.rules.specs.Model.{refusal};
 ghost use Rattle.rules.specs.Labels.{newer};
 ghost use Rattle.book.specs.Layout.{recordSize};
 ghost use Rattle.book.specs.Stamps.{filled};
-ghost use Rattle.rules.specs.Replies.{slotIn, stampedSays, receivedSays, postedSays, toldSays, comparedSays};
+ghost use Rattle.rules.specs.Replies.{slotIn, stampedSays, receivedSays, postedSays, toldSays, comparedSays, picturedSays};
 ghost use Rattle.door.specs.Door.{setupBy, relationByte, whichByte, one, byteTo, placeTo, learntTo, slotTo};
-ghost use Rattle.door.specs.Door.{whichTo, recordTo};
+ghost use Rattle.door.specs.Door.{oddsTo, whichTo, recordTo};
 ghost use Rattle.door.specs.Door.{cramped, Gets, Gives, GivesByte};
 use rules::Compared;
 use rules::Kept;
+use rules::Pictured;
 use rules::Posted;
 use rules::Received;
 use rules::Relation;
@@ -83,6 +84,41 @@ pub fn give_relation(target: &mut [u8], compared: Compared) -> u8
     match compared {
         Compared::Is(relation) => give_byte(target, relation_byte(relation)),
         Compared::Refused(n) => number_by(target.len() < 1, n),
+    }
+}
+
+fn picture_number(pictured: Pictured) -> u8
+    ensures { λ r. ⌜ r ≡ picturedSays pictured .number ⌝ }
+{
+    match pictured {
+        Pictured::Yes => rules::DONE,
+        Pictured::Odds(_, _) => rules::DONE,
+        Pictured::Refused(n) => n,
+    }
+}
+
+// Yes as 1, or 0 and the two desks at odds.
+pub fn give_pictured(answer: &mut [u8], odds: &mut [u8], pictured: Pictured) -> u8
+    ensures { λ r. ⌜ Gives (picturedSays pictured) (byteTo (now (answer .entry)) (now (answer .exit))
+        ∷ oddsTo (now (odds .entry)) (now (odds .exit)) ∷ []) r ⌝ }
+{
+    if (odds.len() < 2) | (answer.len() < 1) {
+        return number_by(true, picture_number(pictured));
+    }
+    match pictured {
+        Pictured::Yes => {
+            let yes = [1];
+            parts::lend(answer, &yes);
+            rules::DONE
+        }
+        Pictured::Odds(lower, higher) => {
+            let no = [0];
+            let desks = [lower, higher];
+            parts::lend(answer, &no);
+            parts::lend(odds, &desks);
+            rules::DONE
+        }
+        Pictured::Refused(n) => n,
     }
 }
 

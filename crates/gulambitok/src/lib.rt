@@ -7,7 +7,7 @@ ghost use Rattle.rules.specs.Model;
 ghost use Rattle.rules.specs.Calls;
 ghost use Rattle.rules.specs.Calls.{on};
 ghost use Rattle.book.specs.Answers.{answerTo, targetAfter, beforeOf, compareOf};
-ghost use Rattle.door.specs.Door.{setupBy, wished, byteTo, placeTo, learntTo, slotTo, whichTo, rowTo, stampTo};
+ghost use Rattle.door.specs.Door.{setupBy, wished, byteTo, oddsTo, placeTo, learntTo, slotTo, whichTo, rowTo, stampTo};
 ghost use Rattle.door.specs.Door.{Gives, Makes};
 
 // Start writes a fresh book: rows zero, no seat started, all places free.
@@ -173,6 +173,20 @@ pub extern "C" fn gulambitok_compare(
         (byteTo (now (answer .entry)) (now (answer .exit)) ∷ []) r ⌝ }
 {
     door::give_relation(answer, portal::compare(book, first, second))
+}
+
+// Picture, of the stamps in a list of slots, one for each desk: 1 where the portal could have stood so, else 0 and two desks at odds.
+#[no_mangle]
+pub extern "C" fn gulambitok_picture(
+    book: &[u8],
+    slots: &[usize],
+    answer: &mut [u8],
+    odds: &mut [u8],
+) -> u8
+    ensures { λ r. ⌜ Gives (answerTo (now (book .entry)) (on (Model.picture (now (slots .entry)))))
+        (byteTo (now (answer .entry)) (now (answer .exit)) ∷ oddsTo (now (odds .entry)) (now (odds .exit)) ∷ []) r ⌝ }
+{
+    door::give_pictured(answer, odds, portal::picture(book, slots))
 }
 
 // Show copies the sixteen row bytes of a slot.
