@@ -6,16 +6,18 @@ refused) and the bytes afterwards (the book it was lent when nothing changes).
 The lent book itself is never written to. An event's last number is the wish to
 keep its stamp: 0 is no, any other is yes, and its slot is then the last value.
 Between the stamp and any slot receive says how many other desks' entries changed.
+Picture takes any number of slots; its values are a yes, or the two desks at odds.
 
 Off the book, the calls take a setup and two stamp records and hand back
 (number, values).
 """
 
 from collections import namedtuple
+from itertools import combinations, permutations
 
 (DONE, BAD_BOOK, BAD_SETUP, NO_DESK, SAME_DESK, NO_PLACE, NOT_YOURS, NO_EVENT,
  PHASE_FULL, MAIL_FULL, SHELF_FULL, SEAT_BEHIND, MAIL_BEHIND, SHELF_BEHIND,
- BAD_STAMP, NO_ROOM, OUT_OF_REACH, BAD_LINE) = range(18)
+ BAD_STAMP, NO_ROOM, OUT_OF_REACH, BAD_LINE, WRONG_OWNER) = range(19)
 
 BOOK_BYTES = 1456
 RECORD_BYTES = 20
@@ -440,10 +442,15 @@ def reach(setup, e):
     return back, setup.n - 1
 
 
-def difference_on_book(book, e, f):
+def phases_between(book, e, f):
+    """How many phases of e's desk f is ahead of e."""
     j = e.owner
+    return lag(book, j, e.row[2 * j]) - lag(book, j, f.row[2 * j])
+
+
+def difference_on_book(book, e, f):
     back, ahead = reach(setup_of(book), e)
-    d = lag(book, j, e.row[2 * j]) - lag(book, j, f.row[2 * j])
+    d = phases_between(book, e, f)
     return d if -back <= d <= ahead else None
 
 
@@ -458,10 +465,15 @@ def difference_off_book(setup, e, f):
     return None
 
 
+def known_and_own(e, f, d):
+    """What f knows of e's desk and what e has there itself, each by its phases from e and its clock."""
+    clock = 2 * e.owner + 1
+    return (d, f.row[clock]), (0, e.row[clock])
+
+
 def says_before(e, f, d):
     """Is f's pair for e's desk strictly later, or e's own pair itself?"""
-    j = e.owner
-    known, own = (d, f.row[2 * j + 1]), (0, e.row[2 * j + 1])
+    known, own = known_and_own(e, f, d)
     return known > own or (known == own and e.owner != f.owner)
 
 
@@ -514,6 +526,49 @@ def compare(book, first, second):
     e, f = stamp_of_slot(book, first), stamp_of_slot(book, second)
     return (*answer_compare(e, f, difference_on_book(book, e, f),
                             difference_on_book(book, f, e)), book)
+
+
+# A picture of all desks
+
+def picture_number(book, slots):
+    if not sound(book):
+        return BAD_BOOK
+    if len(slots) != setup_of(book).D or not all(slot_used(book, slot) for slot in slots):
+        return NO_PLACE
+    return chosen_number(book, [stamp_of_slot(book, slot) for slot in slots])
+
+
+def chosen_number(book, stamps):
+    """Every two places are asked for their reach, whosesoever the stamps are; then whose they are."""
+    if any(difference_on_book(book, e, f) is None for e, f in permutations(stamps, 2)):
+        return OUT_OF_REACH
+    if any(stamp.owner != desk for desk, stamp in enumerate(stamps)):
+        return WRONG_OWNER
+    return DONE
+
+
+def knows_more(book, f, e):
+    """Is f's pair for e's desk later than e's own?"""
+    known, own = known_and_own(e, f, phases_between(book, e, f))
+    return known > own
+
+
+def at_odds(book, e, f):
+    return knows_more(book, e, f) or knows_more(book, f, e)
+
+
+def first_at_odds(book, stamps):
+    """The two desks at odds with the lowest first, then the lowest second; None where all agree."""
+    return next((pair for pair in combinations(range(len(stamps)), 2)
+                 if at_odds(book, *(stamps[desk] for desk in pair))), None)
+
+
+def picture(book, *slots):
+    number = picture_number(book, slots)
+    if number != DONE:
+        return refused(number, book)
+    odds = first_at_odds(book, [stamp_of_slot(book, slot) for slot in slots])
+    return DONE, odds or (True,), book
 
 
 # Stamp records, and the calls off the book

@@ -3,9 +3,14 @@
 Each event knows the set of all events that lead to it (and itself). A row is
 read off that set: for each desk the pair of its last event there, 0.0 if none.
 No pair is ever merged, and no lag goes round a ring. How much a receipt told is
-counted on these sets, too. Phases come round only where they are printed or
-laid out as bytes.
+counted on these sets, and a picture is judged by them, too. Phases come round
+only where they are printed or laid out as bytes.
+
+Beside its set each event has an ordinary vector, the counts of the events that
+it knows of, by which a picture is judged once more.
 """
+
+from itertools import combinations
 
 PLACES = SLOTS = 32
 
@@ -30,6 +35,7 @@ class Event:
         self.phase, self.clock = pair
         self.past = frozenset((self,)).union(past_of(before), past_of(mail))
         self.pairs = last_pairs(desks, self.past)
+        self.counts = counted(desks, self)
 
 
 def past_of(event):
@@ -51,6 +57,19 @@ def last_pairs(desks, past):
         if known is None or event.turn > known.turn:
             last[event.desk] = event
     return [(event.phase, event.clock) if event else (0, 0) for event in last]
+
+
+def counted(desks, event):
+    """The ordinary vector: of what is known the larger counts, and one more at the event's own desk."""
+    known = [cause.counts for cause in (event.before, event.mail) if cause]
+    counts = [max(column) for column in zip([0] * desks, *known)]
+    counts[event.desk] += 1
+    return counts
+
+
+def causes_of(events):
+    """These events and all that lead to one of them."""
+    return frozenset().union(*(event.past for event in events))
 
 
 def first_free(room):
@@ -222,6 +241,50 @@ class Run:
         if not (used(self.shelf, first) and used(self.shelf, second)):
             return 5, ()
         return self.compare_events(self.shelf[first], self.shelf[second])
+
+    # A picture, by the events up to each chosen one and those beyond it
+
+    def picture_number(self, slots):
+        if len(slots) != self.D or not all(used(self.shelf, slot) for slot in slots):
+            return 5
+        chosen = [self.shelf[slot] for slot in slots]
+        if not all(self.within_reach(e, f) for e in chosen for f in chosen):
+            return 16
+        if [event.desk for event in chosen] != list(range(self.D)):
+            return 18
+        return 0
+
+    def picture(self, *slots):
+        number = self.picture_number(slots)
+        if number != 0:
+            return number, ()
+        return 0, self.pictured([self.shelf[slot] for slot in slots])
+
+    def pictured(self, chosen):
+        """Yes where the prefixes hold all causes of their events, else the first two desks at odds."""
+        inside = [self.up_to(choice) for choice in chosen]
+        causes = [causes_of(events) for events in inside]
+        if frozenset().union(*causes) <= frozenset().union(*inside):
+            return (True,)
+        beyond = [self.beyond(choice) for choice in chosen]
+        return next((i, k) for i, k in combinations(range(self.D), 2)
+                    if causes[i] & beyond[k] or causes[k] & beyond[i])
+
+    def up_to(self, choice):
+        return {event for event in self.events
+                if event.desk == choice.desk and event.turn <= choice.turn}
+
+    def beyond(self, choice):
+        return {event for event in self.events
+                if event.desk == choice.desk and event.turn > choice.turn}
+
+    def pictured_by_counts(self, chosen):
+        """The same by ordinary vectors: neither counts more events of the other's desk than the other."""
+        for i, k in combinations(range(self.D), 2):
+            one, other = chosen[i].counts, chosen[k].counts
+            if other[i] > one[i] or one[k] > other[k]:
+                return i, k
+        return (True,)
 
     # The bytes this run should have
 

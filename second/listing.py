@@ -5,6 +5,7 @@
 Each call is made on the bytes (book.py) and, since the last accepted start, on
 the run whose phases never come round (line.py). Both must give the same answer
 and the same book, else Disagree is raised: that is demand 3, held line by line.
+A picture that is answered must be the one that ordinary vectors show as well.
 """
 
 import os
@@ -17,10 +18,11 @@ from second import book, line
 
 VERBS = {b"start": 7, b"local": 2, b"send": 3, b"receive": 3, b"reset": 2,
          b"drop": 1, b"discard": 1, b"before": 2, b"compare": 2}
+LIST_VERBS = (b"picture",)
 EVENTS = ("local", "send", "receive", "reset")
 QUESTIONS = ("before", "compare")
 LONGEST = 64
-SHAPE = re.compile(rb"([a-z]+)((?: [0-9]{3})+)")
+SHAPE = re.compile(rb"([a-z]+)((?: [0-9]{3})*)")
 
 
 class Disagree(Exception):
@@ -39,7 +41,7 @@ def parse(text):
     if shape is None:
         return None
     verb, numbers = shape[1].decode(), [int(field) for field in shape[2].split()]
-    if VERBS.get(shape[1]) != len(numbers):
+    if shape[1] not in LIST_VERBS and VERBS.get(shape[1]) != len(numbers):
         return None
     if verb in EVENTS and numbers[-1] not in (0, 1):
         return None
@@ -104,6 +106,8 @@ class Program:
             self.hold_newest_labels()
         if verb in QUESTIONS and answer.startswith("000"):
             self.hold_label(*(self.run.shelf[slot] for slot in numbers))
+        if verb == "picture" and answer.startswith("000"):
+            self.hold_counts(numbers, answer)
 
     def start(self, numbers):
         if not line.permitted(*numbers):
@@ -116,6 +120,12 @@ class Program:
             return in_words(book.BAD_BOOK)
         number, values = getattr(self.run, verb)(*numbers)
         return in_words(number, fields_of_run(values, self.run.P))
+
+    def hold_counts(self, slots, answer):
+        """Ordinary vectors show the same picture."""
+        values = self.run.pictured_by_counts([self.run.shelf[slot] for slot in slots])
+        if in_words(book.DONE, values) != answer:
+            raise Disagree(f"picture {slots}: bytes {answer!r}, vectors {values}")
 
     def hold_newest_labels(self):
         """The newest stamp with the one before it and one from long ago."""

@@ -7,9 +7,10 @@ DRIVER is tests/raw_driver.c, linked to the library: it makes the calls that it
 is asked for. A prefix to run it by is given by --runner. `tests/raw` builds it.
 
 Sound books made at random (unreachable ones too), full shelves, mail that tells
-of none to all, bytes damaged at every offset, phases off the ring, wrong lengths
-and odd numbers. The answer and every byte of every lent buffer, and of the bytes
-on both sides of it, must be alike.
+of none to all, pictures with each two desks at odds and lists that do not fit,
+bytes damaged at every offset, phases off the ring, wrong lengths and odd numbers.
+The answer and every byte of every lent buffer, and of the bytes on both sides of
+it, must be alike.
 The first difference is printed and ends with 1.
 """
 
@@ -28,11 +29,11 @@ sys.path.insert(0, os.path.dirname(os.path.dirname(os.path.abspath(__file__))))
 from second import book, seeds
 from second.listing import EVENTS
 
-# How many numbers each call takes, and the bytes its value buffers need.
+# How many numbers each call takes, and the bytes its value buffers need. Picture's are a buffer, too.
 BOOK_CALLS = {
     "start": (7, ()), "local": (2, (20, 1)), "send": (3, (20, 1, 1)),
     "receive": (3, (20, 1, 1)), "reset": (2, (20, 1)), "drop": (1, ()),
-    "discard": (1, ()), "before": (2, (1,)), "compare": (2, (1,)),
+    "discard": (1, ()), "before": (2, (1,)), "compare": (2, (1,)), "picture": (0, (1, 2)),
     "show": (1, (16,)), "write": (1, (20,)),
 }
 LABEL_CALLS = ("label_before", "label_compare", "label_newest")
@@ -46,14 +47,20 @@ WISHES = (0, 1, 2, 255, 256, 2**32, 2**64 - 1)
 UNKEPT = (("local", 0), ("local", 8), ("send", 0), ("send", 8), ("send", 9), ("receive", 0),
           ("receive", 8), ("reset", 0), ("reset", 11), ("reset", 12), ("reset", 13))
 
-# What mail tells of a desk, beside what is held of it.
+# What mail tells of a desk, beside what is held of it; what a stamp tells, beside the desk's own.
 LATER, EQUAL, OLDER = -1, 0, 1
+
+# What a picture answers: its number, and how many values.
+PICTURES = ((0, 1), (0, 2), (1, 0), (5, 0), (16, 0), (18, 0))
+
+# Added to a slot they are another number, but the same in 8, 16, 32 or 63 bits.
+WIDER = (256, 2**16, 2**32, 2**63)
 
 RELATIONS = ("before", "after", "same", "concurrent", "crossed")
 WRONG_LENGTHS = (0, 1, 1455, 1457)
 WRONG_LABEL_LENGTHS = (0, 1, 2, 19, 21, 40)
 GUARD = 24
-DEFAULT_CALLS = 7200
+DEFAULT_CALLS = 8200
 SOUND_BOOKS = 600
 BATCH = 250
 
@@ -83,6 +90,15 @@ def parted(arguments):
 
 def word(number):
     return number.to_bytes(8, "little")
+
+
+def listed(rng, slots):
+    """A list of slots as it is lent."""
+    return Lent(rng, b"".join(map(word, slots)))
+
+
+def slots_in(content):
+    return [int.from_bytes(content[at:at + 8], "little") for at in range(0, len(content), 8)]
 
 
 def frame(asked):
@@ -126,10 +142,14 @@ def answer_of(name, arguments):
         return number, None, values
     if name == "write":
         numbers.append(lent[1])
+    if name == "picture":
+        numbers = slots_in(lent[1])
     number, values, after = getattr(book, name)(lent[0], *numbers)
     if name == "send" and number == book.DONE:
         place, stamp, *slot = values
         values = stamp, place, *slot
+    if name == "picture" and len(values) == 2:
+        values = False, bytes(values)
     return number, after, values
 
 
@@ -154,7 +174,7 @@ def expected(name, arguments):
     numbers, lent = parted(arguments)
     outs = lent[len(lent) - len(NEEDS[name]):]
     short = any(out.length < need for out, need in zip(outs, needs(name, numbers)))
-    if number in (book.DONE, book.OUT_OF_REACH) and short:
+    if short and (number == book.DONE or number > book.NO_ROOM):
         return book.NO_ROOM, [buffer.memory for buffer in lent]
     memories = {id(buffer): buffer.memory for buffer in lent}
     if after is not None:
@@ -324,6 +344,130 @@ def slots_apart(rng, content, first, second):
     return bytes(made)
 
 
+def kinds_known(rng, desks, first=None, two=()):
+    """What each desk's stamp tells of each other: no two before the first are at odds, these are just so.
+
+    Behind the first anything goes; without a first no two are at odds.
+    """
+    known = [[EQUAL] * desks for _ in range(desks)]
+    for pair in itertools.combinations(range(desks), 2):
+        i, k = pair
+        agreed = first is None or pair < first
+        kinds = (EQUAL, OLDER) if agreed else (LATER, EQUAL, OLDER)
+        known[i][k], known[k][i] = two if pair == first else rng.choices(kinds, k=2)
+    return known
+
+
+def age_beside(rng, setup, own, kind):
+    """An age of a kind within reach from the own one; None where none is soon found."""
+    lag, left = own
+    back = setup.m if left == setup.L - 1 else setup.m - 1
+    low, high = max(0, lag - setup.n + 1), min(setup.A, lag + back)
+    for _ in range(20):
+        age = (rng.choice((low, lag, high, rng.randint(low, high))),
+               rng.choice((left, max(0, left - 1), some(rng, setup.L - 1))))
+        if kind_of(own, age) == kind:
+            return age
+    return own if kind == EQUAL else None
+
+
+def ages_known(rng, setup, kinds, owner):
+    """The ages of all pairs for one desk, of these kinds but for the owner's own."""
+    while True:
+        own = some(rng, setup.A), some(rng, setup.L - 1)
+        ages = [own if desk == owner else age_beside(rng, setup, own, kind)
+                for desk, kind in enumerate(kinds)]
+        if None not in ages:
+            return ages
+
+
+def pictured_book(rng, known):
+    """A sound book and a slot for each desk, with stamps that tell so much of each other, all within reach."""
+    setup = any_setup(rng)._replace(D=len(known))
+    made, slots = bytearray(sound_book_of(rng, setup)), rng.sample(range(32), setup.D)
+    for desk, slot in enumerate(slots):
+        made[book.slot_at(slot):book.slot_at(slot + 1)] = (
+            book.SHELF_MARK + bytes((desk + 1, 0)) + bytes(16))
+    for owner, kinds in enumerate(zip(*known)):
+        own = made[book.own_entry(owner)]
+        for slot, (lag, left) in zip(slots, ages_known(rng, setup, kinds, owner)):
+            at = book.slot_at(slot) + 4 + 2 * owner
+            made[at:at + 2] = (own - lag) % setup.P, setup.L - 1 - left
+    return bytes(made), slots
+
+
+# What becomes of a book and a list of slots
+
+def left_alone(rng, content, slots):
+    return content, slots
+
+
+def set_apart(rng, content, slots):
+    """Two are at an edge of their reach."""
+    return slots_apart(rng, content, *rng.sample(slots, 2)), slots
+
+
+def swapped(rng, content, slots):
+    at, other = rng.sample(range(len(slots)), 2)
+    return content, seeds.placed(seeds.placed(slots, at, slots[other]), other, slots[at])
+
+
+def swapped_apart(rng, content, slots):
+    return swapped(rng, *set_apart(rng, content, slots))
+
+
+def doubled(rng, content, slots):
+    at, other = rng.sample(range(len(slots)), 2)
+    return content, seeds.placed(slots, at, slots[other])
+
+
+def of_one_owner(rng, content, slots):
+    """Two are one desk's, and mostly at an edge of their reach."""
+    made, (slot, other) = bytearray(content), rng.sample(slots, 2)
+    made[book.slot_at(slot) + 2] = made[book.slot_at(other) + 2]
+    return slots_apart(rng, bytes(made), slot, other), slots
+
+
+def shortened(rng, content, slots):
+    return content, slots[:-1]
+
+
+def lengthened(rng, content, slots):
+    return content, slots + [rng.choice((*slots, 2**64 - 1))]
+
+
+def widened(rng, content, slots):
+    at = rng.randrange(len(slots))
+    return content, seeds.placed(slots, at, slots[at] + rng.choice(WIDER))
+
+
+def freed(rng, content, slots):
+    return book.drop(content, rng.choice(slots))[2], slots
+
+
+def unmarked(rng, content, slots):
+    return damaged_byte(rng, content, rng.choice((0, 9, book.slot_at(slots[0])))), slots
+
+
+MISFITS = (left_alone, set_apart, swapped, swapped_apart, doubled, of_one_owner, shortened,
+           lengthened, widened, freed, unmarked)
+
+
+def some_picture(rng, desks, misfit):
+    """A book and a list of slots, most of it as a picture asks."""
+    known = kinds_known(rng, desks, rng.choice((None, (0, 0))))
+    return misfit(rng, *pictured_book(rng, known))
+
+
+def answered_picture(rng, answer):
+    """A book and a list to which a picture answers this number, and so many values."""
+    while True:
+        content, slots = some_picture(rng, rng.randint(2, 8), rng.choice(MISFITS))
+        number, values, _ = book.picture(content, *slots)
+        if (number, len(values)) == answer:
+            return content, slots
+
+
 def damaged_byte(rng, content, offset):
     """One byte made another, often by little."""
     byte = content[offset]
@@ -355,8 +499,16 @@ def some_number(rng, content):
 def some_numbers(rng, name, content):
     if name == "start":
         return list(any_setup(rng))
+    if name == "picture":
+        return some_slots(rng, content)
     wish = some_wish(rng, name)
     return [some_number(rng, content) for _ in range(BOOK_CALLS[name][0] - len(wish))] + wish
+
+
+def some_slots(rng, content):
+    """Mostly as many as there are desks."""
+    count = min(content[2], 10) if len(content) > 2 and rng.random() < 0.8 else rng.randrange(11)
+    return [some_number(rng, content) for _ in range(count)]
 
 
 def some_wish(rng, name):
@@ -378,10 +530,15 @@ def buffers_of(rng, *lengths):
     return [Lent(rng, rng.randbytes(length)) for length in lengths]
 
 
+def call_on(rng, name, given, numbers):
+    """A call on a lent book; the numbers of a picture are lent, too."""
+    taken = [listed(rng, numbers)] if name == "picture" else numbers
+    return name, [given, *taken, *value_buffers(rng, name)]
+
+
 def fitting(rng, name, given):
     """A call on a lent book, with numbers mostly sensible."""
-    numbers = some_numbers(rng, name, given.content())
-    return name, [given, *numbers, *value_buffers(rng, name)]
+    return call_on(rng, name, given, some_numbers(rng, name, given.content()))
 
 
 def some_call(rng):
@@ -405,6 +562,10 @@ def trials(rng):
         yield from shelf_trials(rng)
         yield from told_trials(rng)
         yield from learnt_room_trials(rng)
+        yield from odds_trials(rng)
+        yield from list_trials(rng)
+        yield from misfit_trials(rng)
+        yield from picture_room_trials(rng)
         yield from offset_trials(rng)
         yield from round_trials(rng)
         yield from label_trials(rng)
@@ -415,7 +576,7 @@ def trials(rng):
 
 def odd_number_trials(rng):
     for name, (count, _) in BOOK_CALLS.items():
-        if name != "start":
+        if name not in ("start", "picture"):
             content, others = sound_book(rng), count - (name in EVENTS)
             for numbers in itertools.product(odd_numbers(content[2]), repeat=others):
                 yield name, [Lent(rng, content), *numbers, *some_wish(rng, name),
@@ -488,6 +649,53 @@ def learnt_room_trials(rng):
                               *buffers_of(rng, 20, room, slot)]
 
 
+def odds_trials(rng):
+    """Pictures with no two at odds, and with each two the first at odds: one way, the other, and both."""
+    for desks in range(2, 9):
+        for _ in range(6):
+            yield picture_trial(rng, *pictured_book(rng, kinds_known(rng, desks)))
+    for desks in (2, 3, 5, 8):
+        for pair in itertools.combinations(range(desks), 2):
+            agreed = rng.choice((EQUAL, OLDER))
+            for two in ((LATER, agreed), (agreed, LATER), (LATER, LATER)):
+                yield picture_trial(rng, *pictured_book(rng, kinds_known(rng, desks, pair, two)))
+
+
+def picture_trial(rng, content, slots, rooms=NEEDS["picture"]):
+    return "picture", [Lent(rng, content), listed(rng, slots), *buffers_of(rng, *rooms)]
+
+
+def list_trials(rng):
+    """Lists of every length, and with a slot that is not there at any place."""
+    for desks, length in itertools.product((2, 5, 8), (*range(11), 256, 257)):
+        content, slots = pictured_book(rng, kinds_known(rng, desks))
+        yield picture_trial(rng, content, (slots * 129)[:length])
+    for desks in range(2, 9):
+        # A count that is D in 8 bits, and in 16.
+        for more in (256,) if desks < 8 else (256, 2**16):
+            content, slots = pictured_book(rng, kinds_known(rng, desks))
+            yield picture_trial(rng, content, slots + [slots[0]] * more)
+        for odd in (31, 32, 255, 256, 2**32, 2**64 - 1, *WIDER):
+            content, slots = pictured_book(rng, kinds_known(rng, desks))
+            at = rng.randrange(desks)
+            wide = odd + slots[at] if odd in WIDER and rng.random() < 0.7 else odd
+            yield picture_trial(rng, content, seeds.placed(slots, at, wide))
+
+
+def misfit_trials(rng):
+    """Lists that do not fit, of few desks mostly: more of these are within reach of one another."""
+    for misfit, desks in itertools.product(MISFITS, (2, 2, 2, 2, 2, 2, 3, 3, 3, 4, 5, 6, 7, 8)):
+        yield picture_trial(rng, *some_picture(rng, desks, misfit))
+
+
+def picture_room_trials(rng):
+    """Each answer of a picture, with answer and odds buffers about their lengths."""
+    for answer in PICTURES:
+        content, slots = answered_picture(rng, answer)
+        for rooms in itertools.product((0, 1, 2), (0, 1, 2, 3)):
+            yield picture_trial(rng, content, slots, rooms)
+
+
 def offset_trials(rng):
     for offset in range(book.BOOK_BYTES):
         content = damaged_byte(rng, sound_book(rng), offset)
@@ -513,9 +721,8 @@ def sound_trials(rng):
     given = Lent(rng, sound_book(rng))
     for _ in range(4):
         yield fitting(rng, sound_call(rng), given)
-    for name in ("receive", "before", "compare", "reset"):
-        yield name, [given, *aimed(rng, name, given.content()), *some_wish(rng, name),
-                     *value_buffers(rng, name)]
+    for name in ("receive", "before", "compare", "reset", "picture"):
+        yield call_on(rng, name, given, aimed(rng, name, given.content()) + some_wish(rng, name))
     for name in ("before", "compare"):
         first, second = aimed(rng, name, given.content())
         if book.slot_used(given.content(), first):
@@ -535,6 +742,9 @@ def aimed(rng, name, content):
         place = rng.choice(used)
         return [max(0, content[book.place_at(place) + 3] - 1), place]
     used = [s for s in range(32) if book.slot_used(content, s)] or [0]
+    if name == "picture":
+        return [rng.choice([s for s in used if content[book.slot_at(s) + 2] == desk + 1] or used)
+                for desk in range(content[2])]
     return [rng.choice(used), rng.choice(used)]
 
 
@@ -623,11 +833,18 @@ def differences(asked, number, memories):
 
 
 def seen_of(asked):
-    """The call with its number, and the value where that is one byte, or how much was learnt."""
-    is_receipt = asked.name == "receive"
-    told = asked.number == book.DONE and (is_receipt or NEEDS[asked.name] == (1,))
-    value = asked.memories[2 if is_receipt else -1]
-    return asked.name, asked.number, value[GUARD] if told else None
+    """The call with its number, and a value that went with it."""
+    return asked.name, asked.number, value_of(asked) if asked.number == book.DONE else None
+
+
+def value_of(asked):
+    """Where it is one byte, how much was learnt, or the two desks at odds, a yes being none."""
+    if asked.name == "picture":
+        answer, odds = (memory[GUARD:] for memory in asked.memories[2:])
+        return () if answer[0] else tuple(odds[:2])
+    if asked.name == "receive" or NEEDS[asked.name] == (1,):
+        return asked.memories[2 if asked.name == "receive" else -1][GUARD]
+    return None
 
 
 def report(trial, seed, asked, wrong):

@@ -13,7 +13,7 @@ import sys
 sys.path.insert(0, os.path.dirname(os.path.dirname(os.path.abspath(__file__))))
 
 from second import line
-from second.listing import EVENTS, VERBS, parse
+from second.listing import EVENTS, LIST_VERBS, VERBS, parse
 
 # Each at some edge of the ranges or of the four inequalities.
 EDGE_SETUPS = (
@@ -29,12 +29,15 @@ EDGE_SETUPS = (
 ODD_NUMBERS = (0, 1, 2, 3, 7, 8, 9, 30, 31, 32, 33, 99, 127, 128, 200, 254,
                255, 256, 257, 511, 512, 998, 999)
 
+# A line holds no more slots than the last.
+ODD_COUNTS = (0, 1, 2, 3, 7, 8, 9, 13, 14)
+
 # As the last number of an event these say neither to keep its stamp nor not to.
 ODD_WISHES = (2, 3, 10, 11, 100, 101, 255, 256, 257, 999)
 
 WORDS = (b"start", b"local", b"send", b"receive", b"reset", b"drop",
-         b"discard", b"before", b"compare", b"keep", b"show", b"write", b"newest",
-         b"Local", b"SEND", b"stars", b"loca", b"locals", b"")
+         b"discard", b"before", b"compare", b"picture", b"keep", b"show", b"write", b"newest",
+         b"Local", b"SEND", b"stars", b"loca", b"locals", b"pictures", b"")
 
 ODD_BYTES = b"\0\t\r\v\f \x1f\x7f\x80\xa0\xb2\xc2\xff.,-+_0129azAZ/:"
 
@@ -72,6 +75,11 @@ def odd_setup(rng):
     setup[moved] = rng.choice((0, 1, 255, 256, 999, setup[moved] - 1,
                                setup[moved] + 1, rng.randint(0, 300)))
     return setup
+
+
+def placed(slots, at, slot):
+    """The list with another slot at a place."""
+    return slots[:at] + [slot] + slots[at + 1:]
 
 
 # Damaged lines
@@ -203,7 +211,70 @@ class Writer:
         first, second = self.slot(), self.slot()
         return first, second if second != first else self.slot()
 
+    def kept_slots(self, desk):
+        """The slots with a desk's stamps, in the order of its events."""
+        slots = [slot for slot, event in enumerate(self.run.shelf) if event and event.desk == desk]
+        return sorted(slots, key=lambda slot: self.run.shelf[slot].turn)
+
+    def one_of_each(self):
+        """For each desk its last slot, or mostly so, or any; whatever is there for a desk without one."""
+        earlier = self.rng.choice((0, 0.4, 0.4, 1))
+        return [self.rng.choice(kept if self.rng.random() < earlier else kept[-1:])
+                for kept in (self.kept_slots(desk) or [self.slot()] for desk in range(self.run.D))]
+
+    def answerable(self):
+        """A slot for each desk that a picture is not refused of, if one is soon found."""
+        for _ in range(8):
+            slots = self.one_of_each()
+            if self.run.picture_number(slots) == 0:
+                return slots
+        return slots
+
+    def misfit(self, slots):
+        """Too few or too many of them, a slot that is not there, or one that is another desk's."""
+        at, other = self.rng.sample(range(len(slots)), 2)
+        free = [slot for slot, event in enumerate(self.run.shelf) if not event]
+        return self.rng.choice((
+            [], slots[:-1], slots[1:], slots + slots[-1:], slots[:1] + slots,
+            (slots * 7)[:14], (slots * 7)[:self.rng.choice(ODD_COUNTS)],
+            placed(slots, at, self.rng.choice(ODD_NUMBERS)),
+            placed(slots, at, slots[at] + self.rng.choice((32, 256, 512))),
+            placed(slots, at, self.rng.choice(free or [31])),
+            placed(slots, at, slots[other]), placed(slots, at, self.slot()),
+            placed(slots, at, self.rng.choice(self.kept_slots(other) or [31])),
+            placed(placed(slots, at, slots[other]), other, slots[at]), slots[::-1]))
+
     # Scenes
+
+    def picture(self):
+        """Mostly one that is answered, sometimes any, sometimes a misfit."""
+        for desk in range(self.run.D):
+            if not self.kept_slots(desk) and self.rng.random() < 0.8:
+                self.keep_more(desk)
+        slots = self.answerable() if self.rng.random() < 0.85 else self.one_of_each()
+        self.say("picture", *(self.misfit(slots) if self.rng.random() < 0.2 else slots))
+
+    def stocktaking(self):
+        """All hear of all, so that all are within reach; then much is kept, and pictures are taken of it."""
+        for desk in list(range(self.run.D)) * 2:
+            self.tell(desk, (desk + 1) % self.run.D)
+        for desk in self.rng.sample(range(self.run.D), self.run.D):
+            self.keep_more(desk)
+        for _ in range(self.rng.randint(5, 15)):
+            self.keep_more(self.rng.randrange(self.run.D))
+            self.picture()
+
+    def keep_more(self, desk):
+        """A kept local, or kept news for another desk; a shelf or a phase that is full is seen to."""
+        if None not in self.run.shelf:
+            self.make_room()
+        if self.run.full(desk):
+            self.turn(desk, 1)
+        elif self.rng.random() < 0.4:
+            self.say("local", desk, 1)
+        else:
+            others = [other for other in range(self.run.D) if other != desk]
+            self.tell(desk, self.rng.choice(others), 1)
 
     def wander(self):
         for _ in range(self.rng.randint(5, 40)):
@@ -212,11 +283,14 @@ class Writer:
     def move(self):
         verb = self.rng.choice((
             "local", "local", "send", "send", "send", "receive", "receive", "receive",
-            "reset", "reset", "reset", "drop", "discard", "before", "compare", "compare"))
+            "reset", "reset", "reset", "drop", "discard", "before", "compare", "compare",
+            "picture"))
         if verb in EVENTS:
             self.event(verb, self.wish())
         elif verb in ("before", "compare"):
             self.say(verb, *self.two_slots())
+        elif verb == "picture":
+            self.picture()
         else:
             self.say(verb, self.slot() if verb == "drop" else self.place())
 
@@ -319,12 +393,23 @@ class Writer:
     def come_round(self):
         """On a ring of three a desk turns to 0 again, and the others hear that it is the newest."""
         self.say("start", self.rng.choice((3, 5, 8, 8)), 3, 60, 1, self.rng.choice((1, 2)),
-                 *some_reach(self.rng, 3))
+                 *self.rng.choice(((1, 2), some_reach(self.rng, 3))))
         desks = self.rng.sample(range(self.run.D), self.run.D)
         self.turn_up_to(desks[0], 2)
-        sent = self.say("send", desks[0], desks[-1], self.wish())
-        self.turn_up_to(desks[0], 3)
+        sent = self.say("send", desks[0], desks[-1], 1)
+        while self.run.own(desks[0])[0] < 3:
+            self.turn(desks[0], 1)
         self.pass_on(desks, sent)
+        for desk in desks:
+            self.keep_more(desk)
+            self.picture()
+        self.ask_in_turn(desks[0])
+
+    def ask_in_turn(self, desk):
+        """Each kept stamp of a desk beside the next."""
+        slots = self.kept_slots(desk)
+        for two in zip(slots, slots[1:]):
+            self.say(self.rng.choice(("before", "compare")), *two)
 
     def old_mail(self):
         """Mails to one desk wait, and the last of them is mostly taken first."""
@@ -346,6 +431,8 @@ class Writer:
             self.say("compare", *self.two_slots())
         if self.rng.random() < 0.2:
             self.say("before", *self.two_slots())
+        if self.rng.random() < 0.2:
+            self.picture()
 
     def rounds(self):
         for _ in range(self.rng.randint(3, 12)):
@@ -436,9 +523,11 @@ class Writer:
     def odd_numbers(self):
         odd = lambda: self.rng.choice(ODD_NUMBERS)
         for _ in range(self.rng.randint(2, 8)):
-            verb = self.rng.choice([verb.decode() for verb in VERBS if verb != b"start"])
+            verb = self.rng.choice([*VERBS, *LIST_VERBS][1:])
+            count = VERBS.get(verb, self.rng.choice(ODD_COUNTS))
+            verb = verb.decode()
             wish = [self.wish()] if verb in EVENTS else []
-            numbers = [odd() for _ in range(VERBS[verb.encode()] - len(wish))]
+            numbers = [odd() for _ in range(count - len(wish))]
             if self.rng.random() < 0.2:
                 numbers = numbers[:1] * len(numbers)
             self.say(verb, *numbers, *wish)
@@ -465,7 +554,7 @@ class Writer:
 
 
 SCENES = ((Writer.wander, 8), (Writer.sprint, 4), (Writer.rounds, 5), (Writer.hearsay, 3),
-          (Writer.come_round, 4), (Writer.old_mail, 4),
+          (Writer.come_round, 4), (Writer.old_mail, 4), (Writer.stocktaking, 6),
           (Writer.fill_mail, 2), (Writer.fill_shelf, 2), (Writer.fill_both, 1), (Writer.ask, 3),
           (Writer.resets, 5), (Writer.odd_numbers, 2), (Writer.bad_lines, 9),
           (Writer.bad_start, 3), (Writer.new_start, 1))
@@ -473,6 +562,7 @@ SCENES = ((Writer.wander, 8), (Writer.sprint, 4), (Writer.rounds, 5), (Writer.he
 # Input that no run is needed for: ends, lengths and bytes.
 SHORT_LISTINGS = (
     b"", b"\n", b"\n\n", b"x", b"\0", b"\r\n", b"\n" * 70000,
+    b"\n".join(b"picture" + b" 000" * count + tail for count in range(17) for tail in (b"", b" ")),
     b"start 002 003 003 001 001 001 001", b"start 002 003 003 001 001 001 001\r\n",
     b"start 256 003 003 001 001 001 001\nlocal 000 000\n",
     *(b"x" * length for length in (63, 64, 65, 66)),

@@ -7,7 +7,8 @@ No line can give 014 (BadStamp) or 015 (NoRoom): no line makes a call that
 reads a record or writes one; and no call at all gives 007 (NoEvent). "crossed"
 is reached by no line either: kept stamps in a book brought along from start
 never cross. Nor is mail that says of its sender just what is held: what a desk
-heard of a send by another way, it heard with a later event of that sender.
+heard of a send by another way, it heard with a later event of that sender. Nor
+are two desks at odds both ways: each would lead to the other.
 Case 4 and case 10 are about records, so lines say only the stamp of case 4 and,
 of case 10, the same differences on the book.
 """
@@ -47,6 +48,18 @@ X = (3, 5, 4, 2, 4, 2, 2)
 LONGEST_ANSWER = 80
 
 NO_LINE_GIVES = (book.NO_EVENT, book.BAD_STAMP, book.NO_ROOM)
+
+# What a picture answers.
+YES = 0, (True,)
+NO_PLACE = book.NO_PLACE, ()
+OUT_OF_REACH = book.OUT_OF_REACH, ()
+WRONG_OWNER = book.WRONG_OWNER, ()
+
+
+def odds(one, other):
+    """What a picture answers where two desks are at odds."""
+    return 0, (one, other)
+
 
 RELATIONS = ("before", "after", "same", "concurrent")
 
@@ -89,6 +102,16 @@ class Writer(seeds.Writer):
     def hears(self, number, desk, to, keep=0):
         """Send, and receive at once."""
         self.learns(number, to, self.mailed(desk, to), keep)
+
+    def pictured(self, answer, *slots):
+        """A picture whose answer was found by hand."""
+        told = self.say("picture", *slots)
+        require(told == answer, f"the picture {answer}: line {len(self.lines)} answers {told}")
+
+    def kept_hears(self, desk, to):
+        """The slots of a send and of its receipt, both kept."""
+        place, _, sent = self.say("send", desk, to, 1)[1]
+        return sent, self.kept("receive", to, place)
 
     def kept_turn(self, desk):
         """Reset and keep, with a second try where something stood in the way."""
@@ -136,7 +159,10 @@ def no_book_yet(w):
     for verb in (verb.decode() for verb in listing.VERBS if verb != b"start"):
         w.say(verb, *numbers_of(verb, 0, 0))
         w.say(verb, *numbers_of(verb, 999, 1))
-    w.raw(b"", b"local 7", b"local 000", b"local 000 002", b"keep 000")
+    for count in (0, 1, 2, 3, 8, 14):
+        w.say("picture", *[0] * count)
+        w.say("picture", *[999] * count)
+    w.raw(b"", b"local 7", b"local 000", b"local 000 002", b"keep 000", b"picture 7", b"picture ")
     w.say("start", 3, 4, 4, 2, 4, 2, 2)
     w.say("local", 0, 1)
 
@@ -320,6 +346,8 @@ def bad_shapes(w):
     for verb, count in listing.VERBS.items():
         good = seeds.text_of(verb.decode(), *[1] * count)
         w.raw(*shapes_of(good))
+    # Some of these are good: picture takes any number of slots.
+    w.raw(*shapes_of(b"picture 001 001 001"))
     w.raw(b"", b" ", b"  ", b"\t", b"\r", b"\0", b"\xff", b"000", b"000 local",
           b"local:000 000", b"local 000 000 local 000 000", b"local000 000", b"local 000000",
           b"show 000", b"write 000", b"newest 000 000", b"LOCAL 000 000", b"Local 000 000",
@@ -684,6 +712,216 @@ def resets_apart(w):
             w.two_ways(slots[:2], slots[2:])
 
 
+# Pictures
+
+def pictures(w):
+    """Desk 0 tells 1, which tells 2, which tells 0; each slot is one event of it."""
+    w.say("start", 3, 5, 20, 2, 4, 2, 2)
+    early = [w.kept("local", desk) for desk in range(3)]
+    sent_0, heard_1 = w.kept_hears(0, 1)
+    sent_1, heard_2 = w.kept_hears(1, 2)
+    sent_2, heard_0 = w.kept_hears(2, 0)
+    w.pictured(YES, *early)
+    # What is known is just what the others have: equal pairs are not at odds.
+    w.pictured(YES, sent_0, heard_1, early[2])
+    w.pictured(YES, sent_0, sent_1, heard_2)
+    w.pictured(YES, heard_0, sent_1, sent_2)
+    # Desks 1 and 2 may have gone on, as long as nobody knows.
+    w.pictured(YES, sent_0, sent_1, early[2])
+    w.pictured(YES, sent_0, sent_1, sent_2)
+    # The second of the two knows more of the first, and nobody knows more of the second.
+    w.pictured(odds(0, 1), early[0], heard_1, early[2])
+    w.pictured(odds(1, 2), sent_0, heard_1, heard_2)
+    w.pictured(odds(0, 2), early[0], early[1], heard_2)
+    # The first knows more of the second, and nobody knows more of the first.
+    w.pictured(odds(0, 2), heard_0, sent_1, heard_2)
+    # Desks 0 and 2 are at odds, and 1 and 2: the lowest first desk decides.
+    w.pictured(odds(0, 2), early[0], early[1], sent_2)
+    # Desks 0 and 1 are at odds, and 0 and 2, and 1 and 2: the lowest second desk decides.
+    w.pictured(odds(0, 1), early[0], heard_1, heard_2)
+    w.pictured(odds(0, 1), heard_0, heard_1, early[2])
+    w.pictured(odds(0, 1), heard_0, early[1], early[2])
+    every_picture(w)
+
+
+def every_picture(w):
+    """Each choice of a slot for each desk."""
+    shelf = list(enumerate(w.run.shelf))
+    for slots in itertools.product(*([slot for slot, event in shelf if event and event.desk == desk]
+                                     for desk in range(w.run.D))):
+        w.say("picture", *slots)
+
+
+def lists_of_slots(w):
+    """A list is of D slots, each of them there: slots are wide, and the count is asked of the call."""
+    w.say("start", 3, 5, 20, 2, 4, 2, 2)
+    good = [w.kept("local", desk) for desk in range(3)]
+    w.pictured(YES, *good)
+    for slots in ((), good[:1], good[:2], good[1:], [*good, 0], [0, *good], [*good, 2], [*good, 999],
+                  [good[0]] * 8, [999, 999]):
+        w.pictured(NO_PLACE, *slots)
+    for at in range(3):
+        for slot in (3, 30, 31, 32, 255, 256 + at, 512 + at, 768 + at, 999):
+            w.pictured(NO_PLACE, *seeds.placed(good, at, slot))
+    # Thirteen and fourteen slots are a line, the latter of 63 bytes; more are none, nor is anything behind them.
+    for count in range(13, 18):
+        text = seeds.text_of("picture", *(good * 6)[:count])
+        w.raw(text, text + b" ", text + b"0", text + b" 0")
+    w.raw(b"picture ", b"picture  000 001 002", b"picture 000 001 002 ", b" picture 000 001 002",
+          b"picture 000 001 02", b"picture 000,001,002", b"picture000 001 002", b"picture 0 1 2",
+          b"pictures 000 001 002", b"Picture 000 001 002", b"picture\t000 001 002", b"picture\r",
+          b"picture 000 001 002\r", b"pictur 000 001 002", b"picture 000 001 0002")
+    w.pictured(YES, *good)
+
+
+def wrong_owners(w):
+    """Each desk has its own place in the list."""
+    w.say("start", 3, 5, 20, 2, 4, 2, 2)
+    early = [w.kept("local", desk) for desk in range(3)]
+    late = w.kept_hears(0, 1)
+    for slots in itertools.product(early, repeat=3):
+        w.pictured(YES if list(slots) == early else WRONG_OWNER, *slots)
+    # Whether or not the same stamps are at odds in their own places.
+    w.pictured(odds(0, 1), early[0], late[1], early[2])
+    w.pictured(WRONG_OWNER, late[1], early[0], early[2])
+    w.pictured(WRONG_OWNER, early[0], late[0], early[2])
+    # What is not there comes before.
+    w.pictured(NO_PLACE, early[1], early[0], 31)
+    w.pictured(NO_PLACE, early[1], early[0])
+
+
+def pictures_out_of_reach(w):
+    """Any two places, each way by its own stamp; from a reset it goes a phase further back."""
+    w.say("start", 3, 5, 20, 2, 4, 2, 2)
+    early = [w.kept("local", desk) for desk in range(3)]
+    w.say("reset", 0, 0)
+    heard = [w.kept("receive", desk, w.mailed(0, desk)) for desk in (1, 2)]
+    turn, local = w.kept("reset", 0), w.kept("local", 0)
+    w.pictured(YES, turn, *early[1:])
+    w.pictured(OUT_OF_REACH, local, *early[1:])
+    # Only desks 0 and 2, then only 0 and 1, then none.
+    w.pictured(OUT_OF_REACH, local, heard[0], early[2])
+    w.pictured(OUT_OF_REACH, local, early[1], heard[1])
+    w.pictured(YES, local, *heard)
+    w.pictured(odds(0, 1), early[0], *heard)
+    w.pictured(odds(0, 2), early[0], early[1], heard[1])
+    # Before WrongOwner, which all of these are, too.
+    w.pictured(OUT_OF_REACH, early[1], local, early[2])
+    w.pictured(OUT_OF_REACH, early[1], early[2], local)
+    w.pictured(WRONG_OWNER, heard[0], local, heard[1])
+    w.pictured(WRONG_OWNER, heard[0], heard[1], local)
+    # At the desks of their places the first would be within reach, and the second out of it.
+    w.pictured(OUT_OF_REACH, heard[0], local, early[2])
+    w.pictured(WRONG_OWNER, early[1], turn, early[2])
+    # Two stamps of desk 0 are out of reach of one another, and nothing else is.
+    w.pictured(OUT_OF_REACH, early[0], local, heard[1])
+    w.pictured(OUT_OF_REACH, heard[0], early[0], local)
+    w.pictured(OUT_OF_REACH, local, heard[0], early[0])
+    w.pictured(WRONG_OWNER, turn, local, heard[1])
+    # What is not there comes before.
+    w.pictured(NO_PLACE, local, early[1])
+    w.pictured(NO_PLACE, local, early[1], 31)
+    w.say("start", 2, 5, 20, 2, 4, 2, 2)
+    first = w.kept("local", 0)
+    w.say("reset", 0, 0)
+    second, third = w.kept("local", 0), w.kept("reset", 0)
+    w.pictured(WRONG_OWNER, first, first)
+    w.pictured(WRONG_OWNER, first, second)
+    w.pictured(WRONG_OWNER, second, third)
+    w.pictured(OUT_OF_REACH, first, third)
+    w.pictured(OUT_OF_REACH, third, first)
+
+
+def nought_in_a_picture(w):
+    """Desk 0 turns from 4 to 0, which is the newest phase: the byte that is less is later."""
+    w.say("start", 3, 5, 40, 2, 4, 2, 2)
+    turn_to(w, 4)
+    four, heard_four = w.kept_hears(0, 1)
+    other = w.kept("local", 2)
+    nought = w.kept("reset", 0)
+    sent, heard_nought = w.kept_hears(0, 1)
+    w.pictured(YES, four, heard_four, other)
+    w.pictured(YES, nought, heard_four, other)
+    w.pictured(YES, sent, heard_nought, other)
+    w.pictured(odds(0, 1), four, heard_nought, other)
+    # By one event of the same phase.
+    w.pictured(odds(0, 1), nought, heard_nought, other)
+    passed_on = w.kept_hears(1, 2)
+    w.pictured(YES, sent, *passed_on)
+    w.pictured(odds(0, 2), four, heard_four, passed_on[1])
+    w.pictured(odds(0, 2), nought, heard_four, passed_on[1])
+    w.pictured(odds(1, 2), sent, heard_four, passed_on[1])
+    every_picture(w)
+
+
+def clocks_beside_phases(w):
+    """A later phase has the smaller clock, each way."""
+    w.say("start", 2, 5, 20, 2, 4, 2, 2)
+    for _ in range(5):
+        w.say("local", 0, 0)
+    early, heard_early = w.kept_hears(0, 1)
+    w.say("reset", 0, 0)
+    late, heard_late = w.kept_hears(0, 1)
+    w.pictured(odds(0, 1), early, heard_late)
+    w.pictured(YES, late, heard_early)
+    w.pictured(YES, early, heard_early)
+    w.pictured(YES, late, heard_late)
+    for _ in range(5):
+        w.say("local", 1, 0)
+    early, heard_early = w.kept_hears(1, 0)
+    w.say("reset", 1, 0)
+    late, heard_late = w.kept_hears(1, 0)
+    w.pictured(odds(0, 1), heard_late, early)
+    w.pictured(YES, heard_early, late)
+
+
+def every_two_of_eight(w):
+    """Each two of eight desks are named, first by what the lower knows of the other, then the other way."""
+    w.say("start", 8, 3, 40, 1, 2, 1, 2)
+    early = [w.kept("local", desk) for desk in range(8)]
+    w.pictured(YES, *early)
+    # Who tells has heard nothing, and the lowest who has told it is named.
+    for desk in range(8):
+        for other in range(7, desk, -1):
+            one_told(w, early, other, desk, odds(desk, other))
+    w.say("start", 8, 3, 40, 1, 2, 1, 2)
+    early = [w.kept("local", desk) for desk in range(8)]
+    for desk in range(7, -1, -1):
+        for other in range(desk - 1, -1, -1):
+            one_told(w, early, other, desk, odds(other, desk))
+
+
+def two_of_four(w):
+    """Desks 0 and 3 are at odds, and 1 and 2: the lowest first desk decides, not the lowest second."""
+    w.say("start", 4, 3, 40, 1, 2, 1, 2)
+    early = [w.kept("local", desk) for desk in range(4)]
+    heard_0, heard_1 = (w.kept("receive", to, w.mailed(3 - to, to)) for to in (0, 1))
+    w.pictured(odds(0, 3), heard_0, heard_1, *early[2:])
+    w.pictured(odds(1, 2), early[0], heard_1, *early[2:])
+
+
+def one_told(w, early, desk, to, answer):
+    """A picture of all as they were early but one, who has been told since."""
+    heard = w.kept("receive", to, w.mailed(desk, to))
+    w.pictured(answer, *seeds.placed(early, to, heard))
+    w.say("drop", heard)
+
+
+def pictures_of_rings(w):
+    """All hear of all and turn, time and again; of each turn and what came of it a picture is taken."""
+    for D in (2, 3, 8):
+        w.say("start", D, 3, 40, 1, 2, 2, 1)
+        while turned(w.run) < 2:
+            lap(w)
+            lap(w)
+            turns = [w.kept("reset", desk) for desk in range(D)]
+            sent, heard = w.kept_hears(1, 0)
+            w.pictured(YES, *turns)
+            w.pictured(odds(0, 1), heard, *turns[1:])
+            w.pictured(YES, heard, sent, *turns[2:])
+            w.drop_all()
+
+
 def unended(w):
     w.say("start", *X)
     w.say("local", 2, 1)
@@ -691,11 +929,13 @@ def unended(w):
 
 SECTIONS = (
     no_book_yet, example, case_1_and_2, case_3_to_8, case_9, case_10,
-    case_11_and_12, case_13, setups, odd_numbers, reasons_that_meet, lags_that_meet,
+    case_11_and_12, case_13, pictures, lists_of_slots, wrong_owners, pictures_out_of_reach,
+    nought_in_a_picture, clocks_beside_phases, two_of_four, every_two_of_eight,
+    setups, odd_numbers, reasons_that_meet, lags_that_meet,
     bad_shapes, odd_wishes, long_lines, full_mail, full_shelf, last_slot, mail_behind,
     shelf_behind, seats_not_started_count, old_mail, all_seven, older_and_newer, rings,
     kept_rings, ring_of_255, clock_of_255, clock_of_2, nought_after_four,
-    one_way_out_of_reach, reset_edge, resets_apart, unended,
+    one_way_out_of_reach, reset_edge, resets_apart, pictures_of_rings, unended,
 )
 
 
@@ -725,7 +965,7 @@ def require(holds, what):
 def check(w, printed):
     require(EXAMPLE_ANSWERS in printed and EXAMPLE in b"\n".join(w.lines), "the example")
     numbers = {int(text[:3]) for text in listing.lines_of(printed)}
-    wanted = set(range(18)) - set(NO_LINE_GIVES)
+    wanted = set(range(19)) - set(NO_LINE_GIVES)
     require(numbers == wanted, f"the numbers {wanted ^ numbers}")
     for word in ("yes", "no", *RELATIONS):
         require(f"\n000 {word}\n".encode() in printed, word)
@@ -735,6 +975,7 @@ def check(w, printed):
     check_reach(w.runs)
     check_shelf(w.lines)
     check_learnt(w.runs)
+    check_pictures(w.lines, listing.lines_of(printed))
     check_eight_desks(w.lines, listing.lines_of(printed))
 
 
@@ -789,6 +1030,22 @@ def check_learnt(runs):
     require(any(receipt.older == receipt.desks - 1 for receipt in seen), "mail older in all")
     require(any(receipt.older and receipt.equal and receipt.later for receipt in seen),
             "mail older in part")
+
+
+def check_pictures(lines, printed):
+    """Every answer, each two of eight desks, and lists of every length that a line has room for."""
+    told = [(listing.parse(text), answer) for text, answer in zip(lines, printed)
+            if text.startswith(b"picture")]
+    seen = {(len(parsed[1]), answer) for parsed, answer in told if parsed}
+    require({answer[:3] for _, answer in seen} == {b"000", b"001", b"005", b"016", b"018"},
+            "every number of a picture")
+    two = {b"000 %03d %03d" % pair for pair in itertools.combinations(range(8), 2)}
+    wanted = {(8, answer) for answer in two | {b"000 yes"}}
+    require(wanted <= seen, f"of eight desks {wanted - seen}")
+    lengths = {length for length, answer in seen if answer == b"005"}
+    require({0, 1, 2, 4, 13, 14} <= lengths, "lists that are too short and too long")
+    refused = {len(text) for text in lines if text.startswith(b"picture") and not listing.parse(text)}
+    require({8, 64, 67} <= refused, "pictures that are no line, of 8, 64 and 67 bytes")
 
 
 Receipt = collections.namedtuple("Receipt", "desks learnt later equal older comes_round")

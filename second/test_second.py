@@ -2,8 +2,9 @@
 
 The example and the cases of docs/RULES.md; that the reach in phases is the reach
 by resets; that a kept event without a slot is refused whole and no call answers
-NoEvent; how much mail tells; that the fixed seeds and the stored listing find
-each error the desks would make; and that the runners report.
+NoEvent; how much mail tells; pictures by hand, by sets of events and by ordinary
+vectors; that the fixed seeds and the stored listing find each error the desks
+would make; and that the runners report.
 """
 
 import contextlib
@@ -236,7 +237,7 @@ class Keeping(unittest.TestCase):
 
     def test_no_call_answers_no_event(self):
         asked = {asked.number for batch in raw.batches(raw.DEFAULT_CALLS, 7) for asked in batch}
-        self.assertEqual(asked, set(range(17)) - {book.NO_EVENT})
+        self.assertEqual(asked, set(range(19)) - {book.NO_EVENT, book.BAD_LINE})
         listings = [stored.data(), *map(seeds.listing, range(501, 541))]
         printed = {text[:3] for data in listings for text in listing.lines_of(listing.answers(data))}
         self.assertNotIn(b"007", printed)
@@ -320,6 +321,212 @@ class Learning(unittest.TestCase):
         stored.check_learnt([run for seed in range(1, 101) for run in seeds.written(seed).runs])
 
 
+# Pictures by hand, and against the history.
+
+PICTURES = b"""\
+start 003 005 009 002 004 002 002
+picture
+local 000 001
+local 001 001
+local 002 001
+picture 000 001 002
+send 000 001 001
+receive 001 000 001
+picture 003 004 002
+picture 000 004 002
+send 001 002 001
+receive 002 000 001
+picture 003 005 006
+picture 003 004 006
+picture 000 001 006
+picture 000 004 006
+picture 003 004
+picture 003 004 002 002
+picture 256 004 002
+picture 003 004 031
+picture 004 003 002
+picture 003 003 002
+reset 000 000
+reset 000 001
+local 000 001
+picture 007 005 006
+picture 008 005 006
+picture 005 008 006
+picture 000 008 006
+picture 000 001 002 000 001 002 000 001 002 000 001 002 000 001
+picture 000 001 002 000 001 002 000 001 002 000 001 002 000 001 002
+picture\x20
+"""
+
+PICTURES_ANSWERS = b"""\
+000
+005
+000 000 000.001 000.000 000.000 000
+000 001 000.000 000.001 000.000 001
+000 002 000.000 000.000 000.001 002
+000 yes
+000 000 000 000.002 000.000 000.000 003
+000 001 000.002 000.002 000.000 001 004
+000 yes
+000 000 001
+000 000 001 000.002 000.003 000.000 005
+000 002 000.002 000.003 000.002 002 006
+000 yes
+000 001 002
+000 000 002
+000 000 001
+005
+005
+005
+005
+018
+018
+000 000 001.000 000.000 000.000
+000 000 002.000 000.000 000.000 007
+000 000 002.001 000.000 000.000 008
+000 yes
+016
+016
+016
+005
+017
+017
+"""
+
+
+def on_shelf(given, slot, owner, *pairs):
+    """The book with a stamp of these pairs in a slot."""
+    at = book.slot_at(slot)
+    kept = book.SHELF_MARK + bytes((owner + 1, 0)) + label(owner, *pairs)[4:]
+    return given[:at] + kept + given[at + 20:]
+
+
+TWO = X._replace(D=2)
+
+# Of a desk at phase 0 its own pair, what the other knows of it, and the answer.
+YES, ODDS, TOO_FAR = (0, (True,)), (0, (0, 1)), (book.OUT_OF_REACH, ())
+TWO_PAIRS = (
+    ((0, 1), (0, 0), YES), ((0, 1), (0, 1), YES), ((0, 1), (0, 2), ODDS), ((0, 2), (0, 1), YES),
+    ((0, 0), (0, 0), YES), ((0, 0), (0, 1), ODDS), ((4, 3), (0, 0), ODDS), ((0, 0), (4, 3), YES),
+    ((4, 1), (4, 2), ODDS), ((4, 2), (4, 1), YES), ((3, 3), (4, 0), ODDS), ((4, 1), (3, 3), YES),
+    ((3, 1), (0, 0), TOO_FAR), ((3, 0), (0, 3), TOO_FAR), ((0, 1), (3, 3), TOO_FAR),
+    ((0, 0), (3, 3), YES), ((0, 0), (2, 0), TOO_FAR), ((1, 0), (1, 0), YES), ((1, 0), (1, 3), ODDS),
+)
+
+
+def pictured(given, *slots):
+    return book.picture(given, *slots)[:2]
+
+
+class Picturing(unittest.TestCase):
+    def test_by_hand(self):
+        self.assertEqual(listing.answers(PICTURES), PICTURES_ANSWERS)
+
+    def test_later_by_the_difference_and_at_0_by_the_clock(self):
+        for own, known, answer in TWO_PAIRS:
+            given = on_shelf(fresh(TWO), 5, 0, own, (0, 1))
+            given = on_shelf(given, 9, 1, known, (0, 1))
+            self.assertEqual(pictured(given, 5, 9), answer, (own, known))
+            given = on_shelf(fresh(TWO), 5, 0, (0, 1), known)
+            given = on_shelf(given, 9, 1, (0, 1), own)
+            self.assertEqual(pictured(given, 5, 9), answer, (own, known))
+
+    def test_each_knows_more_of_the_other(self):
+        """As no run leads to."""
+        given = on_shelf(fresh(TWO), 0, 0, (0, 1), (0, 2))
+        given = on_shelf(given, 1, 1, (0, 2), (0, 1))
+        self.assertEqual(pictured(given, 0, 1), (0, (0, 1)))
+
+    def test_the_lowest_first_then_the_lowest_second(self):
+        setup = X._replace(D=4)
+        for told, answer in (({}, (True,)), ({(3, 0), (2, 1)}, (0, 3)), ({(0, 3), (1, 2)}, (0, 3)),
+                             ({(0, 3), (2, 0)}, (0, 2)), ({(2, 3), (3, 1)}, (1, 3)), ({(3, 2)}, (2, 3)),
+                             ({(1, 0), (0, 1)}, (0, 1)), ({(1, 2), (1, 3), (2, 3)}, (1, 2))):
+            given = fresh(setup)
+            for desk in range(4):
+                pairs = [(0, 2 if (desk, other) in told else 1) for other in range(4)]
+                given = on_shelf(given, 10 + desk, desk, *pairs)
+            self.assertEqual(pictured(given, 10, 11, 12, 13), (0, answer), told)
+
+    def test_refusals_in_their_order(self):
+        """Slots 0 and 1 are right, 2 is desk 0's and out of reach of 0, 3 is desk 0's and within reach."""
+        given = on_shelf(fresh(TWO), 0, 0, (0, 1), (0, 0))
+        given = on_shelf(given, 1, 1, (0, 1), (0, 1))
+        given = on_shelf(given, 2, 0, (3, 1), (0, 0))
+        given = on_shelf(given, 3, 0, (4, 1), (0, 0))
+        for slots, number in (((0, 1), 0), ((0, 3), 18), ((3, 0), 18), ((1, 0), 18), ((0, 0), 18),
+                              ((1, 1), 18), ((0, 2), 16), ((2, 0), 16), ((2, 1), 16), ((1, 2), 16),
+                              ((), 5), ((0,), 5), ((2,), 5), ((0, 1, 1), 5), ((0, 2, 3), 5),
+                              ((2, 31), 5), ((3, 32), 5), ((1, 0, 31), 5), ((0, 1) * 128, 5)):
+            self.assertEqual(book.picture(given, *slots)[0], number, slots)
+            unsound = b"\0" + given[1:]
+            self.assertEqual(book.picture(unsound, *slots), (book.BAD_BOOK, (), unsound))
+        for big in (32, 256, 2**16, 2**32, 2**63, 2**64 - 1, 2**64):
+            for slots in ((big, 1), (big + 1, 1), (0, big), (0, big + 1)):
+                self.assertEqual(book.picture(given, *slots), (book.NO_PLACE, (), given))
+
+    def test_reach_is_asked_at_the_owner_of_the_stamp(self):
+        """Swapped, desk 0's stamp reaches the other though at the place's desk it would not, and the reverse."""
+        far, near = (3, 1), (0, 1)
+        given = on_shelf(on_shelf(fresh(TWO), 0, 0, near, near), 1, 1, near, far)
+        self.assertEqual(pictured(given, 1, 0), (book.OUT_OF_REACH, ()))
+        given = on_shelf(on_shelf(fresh(TWO), 0, 1, near, near), 1, 1, far, near)
+        self.assertEqual(pictured(given, 0, 1), (book.WRONG_OWNER, ()))
+        self.assertEqual(pictured(given, 1, 0), (book.WRONG_OWNER, ()))
+
+    def test_ordinary_vectors_count_the_past(self):
+        for run in (run for seed in range(1, 21) for run in seeds.written(seed).runs):
+            for event in run.events:
+                counts = [sum(one.desk == desk for one in event.past) for desk in range(run.D)]
+                self.assertEqual(event.counts, counts)
+
+    def test_sets_and_vectors_show_the_same(self):
+        """Of any events, kept or not, within reach or not; no two are at odds both ways."""
+        rng, seen = random.Random(5), set()
+        for run in (run for seed in range(1, 41) for run in seeds.written(seed).runs):
+            made = [[event for event in run.events if event.desk == desk] for desk in range(run.D)]
+            for _ in range(10 if all(made) else 0):
+                chosen = [rng.choice(events[-rng.randint(1, len(events)):]) for events in made]
+                self.assertEqual(run.pictured(chosen), run.pictured_by_counts(chosen))
+                self.hold_one_way(run, chosen)
+                seen.add(run.pictured(chosen))
+        self.assertLessEqual({(True,), (0, 1), (0, 2), (1, 2)}, seen)
+        self.assertGreater(len(seen), 12)
+
+    def hold_one_way(self, run, chosen):
+        for e, f in itertools.combinations(chosen, 2):
+            self.assertFalse(f.counts[e.desk] > e.counts[e.desk] and e.counts[f.desk] > f.counts[f.desk])
+
+    def test_the_present_is_a_picture(self):
+        """The last event of each desk, whatever has come round."""
+        for run in (run for seed in range(1, 41) for run in seeds.written(seed).runs):
+            if all(run.last):
+                self.assertEqual(run.pictured(run.last), (True,))
+
+    def test_seeds_take_every_picture(self):
+        seen = set()
+        for data in map(seeds.listing, range(1, 101)):
+            seen |= set(pictures_in(data))
+        self.assertEqual({answer[:3] for _, answer, _ in seen}, {b"000", b"001", b"005", b"016", b"018"})
+        two = {answer for _, answer, _ in seen if answer.count(b" ") == 2}
+        self.assertGreater(len(two), 15)
+        for more in (-1, 0, 1):
+            self.assertIn((more, b"005"), {one[:2] for one in seen})
+        for answer in (b"000 yes", b"000 000 001", b"016", b"018"):
+            self.assertIn((0, answer, True), seen)
+
+
+def pictures_in(data):
+    """How many slots there are beside D, the answer, and whether each desk has come round."""
+    program = listing.Program()
+    for text in listing.lines_of(data):
+        answer = program.answer(text).encode()
+        verb, slots = listing.parse(text) or (None, ())
+        if verb == "picture":
+            desks = program.run.D if program.run else 0
+            yield len(slots) - desks, answer, bool(program.run) and stored.turned(program.run) > 0
+
+
 # The reach by the resets themselves, against the reach in phases.
 
 def resets_about(run, e):
@@ -400,7 +607,7 @@ TRUE = {name: getattr(book, name) for name in
          "local_number", "send_number", "put_on_shelf", "shelf_full", "says_before",
          "row_sound", "used_place_sound", "reach", "compare", "label_compare",
          "difference_on_book", "difference_off_book", "permitted", "start", "sound",
-         "read_both")}
+         "read_both", "picture", "picture_number", "chosen_number", "at_odds", "knows_more")}
 
 
 def lag_without_adding_P(own, phase, P):
@@ -593,6 +800,156 @@ def to_oneself_is_sound(given, at, setup):
     return TRUE["used_place_sound"](given, at, setup) or given[at + 2] == given[at + 3]
 
 
+# Pictures
+
+def all_at_odds(given, stamps):
+    return [(i, k) for i, k in itertools.combinations(range(len(stamps)), 2)
+            if book.at_odds(given, stamps[i], stamps[k])]
+
+
+def neighbours_alone_are_at_odds(given, stamps):
+    return next((pair for pair in all_at_odds(given, stamps) if pair[1] == pair[0] + 1), None)
+
+
+def the_last_two_are_named(given, stamps):
+    return max(all_at_odds(given, stamps), default=None)
+
+
+def the_lowest_second_comes_first(given, stamps):
+    return min(all_at_odds(given, stamps), key=lambda pair: pair[::-1], default=None)
+
+
+def the_higher_is_named_first(given, stamps):
+    pairs = all_at_odds(given, stamps)
+    return pairs[0][::-1] if pairs else None
+
+
+def equal_pairs_are_at_odds(given, f, e):
+    known, own = book.known_and_own(e, f, book.phases_between(given, e, f))
+    return known >= own
+
+
+def the_larger_byte_knows_more(given, f, e):
+    at = slice(2 * e.owner, 2 * e.owner + 2)
+    return f.row[at] > e.row[at]
+
+
+def nought_is_nothing_known(given, f, e):
+    """Nor is it anything of one's own."""
+    rows = (stamp.row[2 * e.owner:2 * e.owner + 2] for stamp in (e, f))
+    return bytes(2) not in rows and TRUE["knows_more"](given, f, e)
+
+
+def clocks_alone_count(given, f, e):
+    return f.row[2 * e.owner + 1] > e.row[2 * e.owner + 1]
+
+
+def phases_alone_count(given, f, e):
+    return book.phases_between(given, e, f) > 0
+
+
+def the_first_alone_is_asked(given, e, f):
+    return book.knows_more(given, e, f)
+
+
+def the_second_alone_is_asked(given, e, f):
+    return book.knows_more(given, f, e)
+
+
+def both_ways_cancel(given, e, f):
+    return book.knows_more(given, e, f) != book.knows_more(given, f, e)
+
+
+def at_odds_by_concurrence(given, e, f):
+    """As if only an event before the other could be beside it."""
+    return not (TRUE["says_before"](e, f, book.phases_between(given, e, f))
+                or TRUE["says_before"](f, e, book.phases_between(given, f, e)))
+
+
+def owners_come_first(given, stamps):
+    wrong = any(stamp.owner != desk for desk, stamp in enumerate(stamps))
+    return book.WRONG_OWNER if wrong else TRUE["chosen_number"](given, stamps)
+
+
+def no_owner_is_asked(given, stamps):
+    number = TRUE["chosen_number"](given, stamps)
+    return book.DONE if number == book.WRONG_OWNER else number
+
+
+def places_are_asked_for_reach(given, stamps):
+    """At the desk that a place is for, whosesoever its stamp is."""
+    placed = [stamp._replace(owner=desk) for desk, stamp in enumerate(stamps)]
+    number = TRUE["chosen_number"](given, placed)
+    return number if number != book.DONE or placed == stamps else book.WRONG_OWNER
+
+
+def reach_asked_of(two_of):
+    """An error: of these two stamps alone is the reach asked."""
+    def number(given, stamps):
+        with mock.patch.object(book, "permutations", lambda stamps, _: two_of(stamps)):
+            return TRUE["chosen_number"](given, stamps)
+    number.__name__ = f"reach_asked_of {two_of.__name__}"
+    return "chosen_number", number
+
+
+def neighbours(stamps):
+    return [*zip(stamps, stamps[1:]), *zip(stamps[1:], stamps)]
+
+
+def the_lower_place_first(stamps):
+    return itertools.combinations(stamps, 2)
+
+
+def the_higher_place_first(stamps):
+    return itertools.combinations(stamps[::-1], 2)
+
+
+def different_owners(stamps):
+    return [(e, f) for e, f in itertools.permutations(stamps, 2) if e.owner != f.owner]
+
+
+def own_places(stamps):
+    """Those that are where their owner's should be."""
+    right = [stamp for desk, stamp in enumerate(stamps) if stamp.owner == desk]
+    return itertools.permutations(right, 2)
+
+
+REACHES_OF_PICTURES = (neighbours, the_lower_place_first, the_higher_place_first,
+                       different_owners, own_places)
+
+
+def a_longer_list_will_do(given, *slots):
+    return TRUE["picture"](given, *slots[:given[2]] if book.sound(given) else slots)
+
+
+def a_shorter_list_will_do(given, *slots):
+    """Desks that no slot is given for are not asked."""
+    if not book.sound(given) or len(slots) >= given[2]:
+        return TRUE["picture"](given, *slots)
+    with mock.patch.object(book, "setup_of", lambda _: book.Setup(*given[2:9])._replace(D=len(slots))), \
+            mock.patch.object(book, "sound", lambda _: True):
+        return TRUE["picture"](given, *slots)
+
+
+def any_order_will_do(given, *slots):
+    """The owners of the stamps say which desks they are for."""
+    if TRUE["picture_number"](given, slots) != book.WRONG_OWNER:
+        return TRUE["picture"](given, *slots)
+    return TRUE["picture"](given, *sorted(slots, key=lambda slot: given[book.slot_at(slot) + 2]))
+
+
+def slots_modulo(size):
+    """An error: a slot is what is left of its number in so many values."""
+    def error(given, *slots):
+        return TRUE["picture"](given, *(slot % size for slot in slots))
+    error.__name__ = f"slots modulo {size}"
+    return "picture", error
+
+
+def a_count_of_one_byte(given, *slots):
+    return TRUE["picture"](given, *slots[:len(slots) % 256])
+
+
 # The reach from e to f, back and ahead.
 
 def no_reset_is_known(setup, e, f):
@@ -672,6 +1029,20 @@ LEARNING_ERRORS = (
     ("merge", bytes_that_change_count), ("merge", told_or_not), ("receive", the_slot_stands_first),
 )
 
+PICTURE_ERRORS = (
+    ("first_at_odds", neighbours_alone_are_at_odds), ("first_at_odds", the_last_two_are_named),
+    ("first_at_odds", the_lowest_second_comes_first), ("first_at_odds", the_higher_is_named_first),
+    ("knows_more", equal_pairs_are_at_odds), ("knows_more", the_larger_byte_knows_more),
+    ("knows_more", nought_is_nothing_known), ("knows_more", clocks_alone_count),
+    ("knows_more", phases_alone_count), ("at_odds", the_first_alone_is_asked),
+    ("at_odds", the_second_alone_is_asked), ("at_odds", at_odds_by_concurrence),
+    ("chosen_number", owners_come_first), ("chosen_number", no_owner_is_asked),
+    ("chosen_number", places_are_asked_for_reach),
+    *(reach_asked_of(two_of) for two_of in REACHES_OF_PICTURES),
+    ("picture", a_longer_list_will_do), ("picture", a_shorter_list_will_do),
+    ("picture", any_order_will_do), slots_modulo(256), slots_modulo(32),
+)
+
 ERRORS = (
     ("lag_behind", lag_without_adding_P), ("lag_behind", own_above_v_subtracts),
     ("later", larger_byte_is_later), ("says_before", nought_is_never_seen),
@@ -680,15 +1051,15 @@ ERRORS = (
     ("answer_compare", unreachable_is_concurrent), ("permitted", a_phase_short),
     ("compare", the_first_is_asked_both_ways),
     *(by_reach("difference_on_book", reach) for reach in REACHES),
-    *KEEPING_ERRORS, *LEARNING_ERRORS,
+    *KEEPING_ERRORS, *LEARNING_ERRORS, *PICTURE_ERRORS,
 )
 
-# The last nine no listing can show: they need books that no run reaches, or a number that no line has.
+# The last fourteen no listing can show: they need books that no run reaches, or a number that no line has.
 RAW_ERRORS = (
     ("lag_behind", lag_without_adding_P), ("lag_behind", own_above_v_subtracts),
     ("later", larger_byte_is_later), ("says_before", nought_is_never_seen),
     ("receive", place_stays_used), ("receive", refused_receipt_frees),
-    ("lag_number", only_seats_are_checked), *KEEPING_ERRORS, *LEARNING_ERRORS,
+    ("lag_number", only_seats_are_checked), *KEEPING_ERRORS, *LEARNING_ERRORS, *PICTURE_ERRORS,
     ("answer_compare", unreachable_is_concurrent), ("compare", the_first_is_asked_both_ways),
     ("label_compare", the_first_label_is_asked_both_ways),
     *(by_reach("difference_on_book", reach) for reach in REACHES),
@@ -698,11 +1069,12 @@ RAW_ERRORS = (
     ("merge", own_entry_is_merged), ("merge", the_own_entry_in_mail_counts),
     ("row_sound", any_filler), ("row_sound", one_more_lag),
     ("row_sound", phases_come_round), ("used_place_sound", to_oneself_is_sound),
-    ("put_on_shelf", kept_by_the_last_byte),
+    ("put_on_shelf", kept_by_the_last_byte), slots_modulo(2**16), slots_modulo(2**32),
+    slots_modulo(2**63), ("picture", a_count_of_one_byte), ("at_odds", both_ways_cancel),
 )
 
 
-# Errors of the count by sets of events.
+# Errors of what is read off sets of events, and of the ordinary vectors.
 
 def all_behind_count(receipt):
     return len({event.desk for event in receipt.past} - {receipt.desk})
@@ -717,7 +1089,41 @@ def events_count(receipt):
     return sum(event.desk != receipt.desk for event in told)
 
 
-SET_ERRORS = (all_behind_count, the_receiver_counts, events_count)
+def the_next_causes_alone(events):
+    """No cause of a cause."""
+    return {cause for event in events for cause in (event, event.before, event.mail) if cause}
+
+
+def the_chosen_is_beyond(run, choice):
+    return {event for event in run.events
+            if event.desk == choice.desk and event.turn >= choice.turn}
+
+
+def all_have_come_in(run, choice):
+    """Each desk's events, those beyond the choice too."""
+    return {event for event in run.events if event.desk == choice.desk}
+
+
+def mail_is_not_counted(desks, event):
+    counts = list(event.before.counts) if event.before else [0] * desks
+    counts[event.desk] += 1
+    return counts
+
+
+def the_sender_alone_is_counted(desks, event):
+    counts = mail_is_not_counted(desks, event)
+    if event.mail:
+        sender = event.mail.desk
+        counts[sender] = max(counts[sender], event.mail.counts[sender])
+    return counts
+
+
+SET_ERRORS = (
+    (line, "learnt", all_behind_count), (line, "learnt", the_receiver_counts),
+    (line, "learnt", events_count), (line, "causes_of", the_next_causes_alone),
+    (line.Run, "beyond", the_chosen_is_beyond), (line.Run, "up_to", all_have_come_in),
+    (line, "counted", mail_is_not_counted), (line, "counted", the_sender_alone_is_counted),
+)
 
 
 def is_found(name, error, data, expected):
@@ -749,8 +1155,8 @@ class Errors(unittest.TestCase):
             with mock.patch.object(book, name, error), \
                     self.assertRaises(listing.Disagree, msg=error.__name__):
                 listing.answers(data)
-        for error in SET_ERRORS:
-            with mock.patch.object(line, "learnt", error), \
+        for part, name, error in SET_ERRORS:
+            with mock.patch.object(part, name, error), \
                     self.assertRaises(listing.Disagree, msg=error.__name__):
                 listing.answers(data)
 
@@ -840,6 +1246,64 @@ def asks_learnt_where_kept(batch):
         return stand_in_library()(batch)
 
 
+def asks_answer_never(batch):
+    """A library that finds no answer buffer of a picture too short."""
+    with mock.patch.dict(raw.NEEDS, picture=(0, 2)):
+        return stand_in_library()(batch)
+
+
+def asks_odds_never(batch):
+    """A library that finds no odds buffer too short."""
+    with mock.patch.dict(raw.NEEDS, picture=(1, 0)):
+        return stand_in_library()(batch)
+
+
+def asks_odds_where_there_are_any(batch):
+    """A library that finds an odds buffer too short only where two desks are at odds."""
+    answers, ended = stand_in_library()(batch)
+    for at, asked in enumerate(batch):
+        if asked.name == "picture" and len(raw.answer_of(*asked[:2])[2]) < 2:
+            with mock.patch.dict(raw.NEEDS, picture=(1, 0)):
+                answers[at] = raw.expected(*asked[:2])
+    return answers, ended
+
+
+def asks_room_last(batch):
+    """A library that gives what is due after NoRoom before it."""
+    answers, ended = stand_in_library()(batch)
+    for at, asked in enumerate(batch):
+        number = raw.answer_of(*asked[:2])[0]
+        if number > book.NO_ROOM:
+            answers[at] = number, answers[at][1]
+    return answers, ended
+
+
+def with_odds(change):
+    """A library that gives a picture's values as they are changed."""
+    answer_of = raw.answer_of
+
+    def changed(name, arguments):
+        number, after, values = answer_of(name, arguments)
+        return number, after, change(*values) if name == "picture" and values else values
+
+    def library(batch):
+        with mock.patch.object(raw, "answer_of", changed):
+            return stand_in_library()(batch)
+    return library
+
+
+def zeros_beside_yes(answer, odds=bytes(2)):
+    return answer, odds
+
+
+def the_higher_first(answer, odds=None):
+    return (answer, odds[::-1]) if odds else (answer,)
+
+
+def yes_and_no_swapped(answer, *odds):
+    return not answer, *odds
+
+
 def ends_early(batch):
     return stand_in_library()(batch[:-1])[0], -11
 
@@ -854,6 +1318,7 @@ POSSIBLE = {
     "receive": {0, 1, 3, 5, 6, 8, 10, 15}, "reset": {0, 1, 3, 10, 11, 12, 13, 15},
     "drop": {0, 1, 5}, "discard": {0, 1, 5},
     "before": {0, 1, 5, 15, 16}, "compare": {0, 1, 5, 15, 16},
+    "picture": {0, 1, 5, 15, 16, 18},
     "show": {0, 1, 5, 15}, "write": {0, 1, 5, 15},
     "label_before": {0, 2, 14, 15, 16}, "label_compare": {0, 2, 14, 15, 16},
     "label_newest": {0, 2, 14, 15, 16},
@@ -888,6 +1353,16 @@ def told_of_mail(trial):
     return raw.answer_of(*trial)[2][1], kinds, own, content[3] - 1 in apart
 
 
+def told_of_picture(trial):
+    """How many desks there are, the kinds of what any two know of each other, and the values answered."""
+    content, listed, *_ = (buffer.content() for buffer in raw.parted(trial[1])[1])
+    rows = [ages_of(content, book.slot_at(slot)) for slot in raw.slots_in(listed)]
+    ages = [[pair[:2] for pair in row] for row in rows]
+    kinds = {(i, k): (raw.kind_of(ages[k][k], ages[i][k]), raw.kind_of(ages[i][i], ages[k][i]))
+             for i, k in itertools.combinations(range(len(rows)), 2)}
+    return len(rows), kinds, raw.answer_of(*trial)[2]
+
+
 class Raw(unittest.TestCase):
     @classmethod
     def setUpClass(cls):
@@ -905,6 +1380,8 @@ class Raw(unittest.TestCase):
         for name in ("compare", "label_compare"):
             self.assertEqual({key[2] for key in seen if key[:2] == (name, 0)}, {1, 2, 3, 4, 5})
         self.assertEqual({key[2] for key in seen if key[:2] == ("receive", 0)}, set(range(8)))
+        self.assertEqual({key[2] for key in seen if key[:2] == ("picture", 0)},
+                         {(), *itertools.combinations(range(8), 2)})
 
     def found(self, library, *parts):
         with contextlib.redirect_stdout(io.StringIO()) as told:
@@ -955,6 +1432,87 @@ class Raw(unittest.TestCase):
             short = room == 0 or (wish and slot == 0)
             numbers = {(0, 15 if short else 0), (8, 8)} | ({(10, 10)} if wish else set())
             self.assertEqual({(one[0], one[4]) for one in seen if one[1:4] == (wish, room, slot)}, numbers)
+
+    def test_each_two_desks_are_at_odds_each_way(self):
+        """Told by remainders: one way, the other and both ways, among eight desks and among fewer."""
+        seen = set()
+        for desks, kinds, values in map(told_of_picture, raw.odds_trials(random.Random(3))):
+            odd = sorted(pair for pair, two in kinds.items() if raw.LATER in two)
+            self.assertEqual(values, (False, bytes(odd[0])) if odd else (True,))
+            if odd:
+                seen.add((desks, odd[0], *(kind == raw.LATER for kind in kinds[odd[0]])))
+            else:
+                seen.add((desks, frozenset(sum(kinds.values(), ()))))
+        ways = (True, False), (False, True), (True, True)
+        for desks in (2, 3, 5, 8):
+            for pair, way in itertools.product(itertools.combinations(range(desks), 2), ways):
+                self.assertIn((desks, pair, *way), seen)
+        for desks in range(3, 9):
+            self.assertIn((desks, frozenset((raw.EQUAL, raw.OLDER))), seen)
+
+    def test_lists_that_do_not_fit(self):
+        """Out of reach by stamps that are not their place's, by two of one owner; wrong owners in reach."""
+        seen = set()
+        for name, arguments in raw.misfit_trials(random.Random(3)):
+            content, listed, *_ = (buffer.content() for buffer in raw.parted(arguments)[1])
+            owners = tuple(content[book.slot_at(slot) + 2] - 1 for slot in raw.slots_in(listed) if slot < 32)
+            seen.add((owners, raw.answer_of(name, arguments)[0]))
+        for owners in ((0, 0), (1, 1), (1, 0)):
+            for number in (book.OUT_OF_REACH, book.WRONG_OWNER):
+                self.assertIn((owners, number), seen)
+        self.assertLessEqual({((0, 1), number) for number in (book.DONE, book.OUT_OF_REACH)}, seen)
+        self.assertLessEqual({number for _, number in seen}, {0, 1, 5, 16, 18})
+
+    def test_lists_of_every_length(self):
+        lengths, wide = set(), set()
+        for name, arguments in raw.list_trials(random.Random(3)):
+            slots = raw.slots_in(raw.parted(arguments)[1][1].content())
+            lengths.add(len(slots))
+            wide |= {slot for slot in slots if slot > 31}
+            if max(slots, default=0) > 31:
+                self.assertEqual(raw.answer_of(name, arguments)[0], book.NO_PLACE)
+        self.assertLessEqual({*range(11), 256, 257, 258, 2**16 + 8}, lengths)
+        self.assertLessEqual({32, 255, 256, 2**32, 2**64 - 1}, wide)
+
+    def test_a_picture_as_it_is_asked(self):
+        """The list is lent between the book and the value buffers, eight bytes for each slot, the least first."""
+        rng = random.Random(3)
+        arguments = raw.picture_trial(rng, b"book", [1, 256, 2**64 - 1])[1]
+        numbers, lent = raw.parted(arguments)
+        self.assertEqual((numbers, [buffer.length for buffer in lent]), ([], [4, 24, 1, 2]))
+        slots = b"\1" + bytes(7) + b"\0\1" + bytes(6) + b"\xff" * 8
+        self.assertEqual(lent[1].content(), slots)
+        asked = raw.frame(raw.Asked("picture", arguments, None, None))
+        self.assertEqual(asked[:11], bytes((9, 0, 4)) + b"\4" + bytes(7))
+        self.assertEqual(asked[63:71], b"\x18" + bytes(7))
+        self.assertEqual(asked[95:119], slots)
+
+    def test_picture_buffers_beside_each_reason(self):
+        """Too short is NoRoom after 1 and 5 and before 16 and 18, with a value for it or not."""
+        seen = set()
+        for name, arguments in raw.picture_room_trials(random.Random(3)):
+            lent = raw.parted(arguments)[1]
+            (roomy, _, values), (number, memories) = (
+                part(name, arguments) for part in (raw.answer_of, raw.expected))
+            seen.add((roomy, len(values), lent[2].length, lent[3].length, number))
+            if number != book.DONE or len(values) == 1:
+                self.assertEqual(memories[3], lent[3].memory)
+            if number != book.DONE:
+                self.assertEqual(memories, [buffer.memory for buffer in lent])
+        self.assertEqual(seen, {
+            (number, values, answer, odds,
+             15 if number not in (1, 5) and (answer < 1 or odds < 2) else number)
+            for number, values in raw.PICTURES for answer in range(3) for odds in range(4)})
+
+    def test_picture_buffers_are_asked_always(self):
+        self.found(asks_answer_never, "second answers 15")
+        self.found(asks_odds_never, "second answers 15")
+        self.found(asks_odds_where_there_are_any, "second answers 15")
+        self.found(asks_room_last, "second answers 15")
+
+    def test_odds_are_written_where_there_are_any(self):
+        for change in (zeros_beside_yes, the_higher_first, yes_and_no_swapped):
+            self.found(with_odds(change), "picture differs", "buffer ")
 
     def test_slot_buffers_are_asked_where_it_is_kept(self):
         self.found(asks_a_slot_always, "library 15")
