@@ -13,6 +13,9 @@ struct event {
     const uint8_t *row;
 };
 
+/* One above the last two of eight desks. */
+enum { NO_PAIR = SEATS * SEATS };
+
 static const uint8_t header_mark[2] = {0x42, 0x4B};
 static const uint8_t seat_mark[2] = {0x53, 0x45};
 static const uint8_t mail_mark[2] = {0x4D, 0x41};
@@ -536,6 +539,86 @@ uint8_t plain_compare(const uint8_t *book, size_t book_len, size_t first, size_t
     if (!within_reach(&s, e, forth) || !within_reach(&s, f, back))
         return OUT_OF_REACH;
     *answer = relation(e, f, forth, back);
+    return DONE;
+}
+
+static int picture_named(const uint8_t *book, const struct setup *s, const size_t *slots,
+                         size_t slots_len)
+{
+    if (slots_len != s->desks)
+        return 0;
+    for (size_t desk = 0; desk < s->desks; desk++)
+        if (!slot_used(book, slots[desk]))
+            return 0;
+    return 1;
+}
+
+static int picture_owned(const struct setup *s, const struct event *chosen)
+{
+    for (size_t desk = 0; desk < s->desks; desk++)
+        if (chosen[desk].owner != desk)
+            return 0;
+    return 1;
+}
+
+/* f has seen a later event at e's desk than e itself. */
+static int knows_more(struct event e, struct event f, int difference)
+{
+    return difference > 0
+        || (difference == 0 && f.row[2 * e.owner + 1] > e.row[2 * e.owner + 1]);
+}
+
+/* Two desks as one number: the lower it is, the lower the first desk, then the second. */
+static size_t pair_of(size_t desk, size_t other)
+{
+    return desk < other ? SEATS * desk + other : SEATS * other + desk;
+}
+
+/* Whether every way is within reach, from a stamp to itself too, where the difference is 0. One that is
+ * not refuses the call, so the lowest pair at odds, or NO_PAIR, is only noted on the way. */
+static int picture_within_reach(const uint8_t *book, const struct setup *s,
+                                const struct event *chosen, size_t *odds)
+{
+    size_t lowest = NO_PAIR;
+    for (size_t from = 0; from < s->desks; from++) {
+        struct event e = chosen[from];
+        size_t own = own_phase(book, e.owner), held = lag(own, e.row[2 * e.owner], s->phases);
+        for (size_t to = 0; to < s->desks; to++) {
+            struct event f = chosen[to];
+            int difference = (int)held - (int)lag(own, f.row[2 * e.owner], s->phases);
+            if (!within_reach(s, e, difference))
+                return 0;
+            if (knows_more(e, f, difference) && pair_of(from, to) < lowest)
+                lowest = pair_of(from, to);
+        }
+    }
+    *odds = lowest;
+    return 1;
+}
+
+uint8_t plain_picture(const uint8_t *book, size_t book_len, const size_t *slots, size_t slots_len,
+                      uint8_t *answer, size_t answer_len, uint8_t *odds, size_t odds_len)
+{
+    struct setup s;
+    if (!book_sound(book, book_len, &s))
+        return BAD_BOOK;
+    if (!picture_named(book, &s, slots, slots_len))
+        return NO_PLACE;
+    if (answer_len < 1 || odds_len < ODDS_BYTES)
+        return NO_ROOM;
+    struct event chosen[SEATS];
+    for (size_t desk = 0; desk < s.desks; desk++)
+        chosen[desk] = kept_event(book, slots[desk]);
+    size_t pair;
+    if (!picture_within_reach(book, &s, chosen, &pair))
+        return OUT_OF_REACH;
+    if (!picture_owned(&s, chosen))
+        return WRONG_OWNER;
+    *answer = pair == NO_PAIR;
+    if (pair != NO_PAIR) {
+        odds[0] = (uint8_t)(pair / SEATS);
+        odds[1] = (uint8_t)(pair % SEATS);
+    }
     return DONE;
 }
 

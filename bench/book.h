@@ -8,7 +8,7 @@
 enum answer {
     DONE, BAD_BOOK, BAD_SETUP, NO_DESK, SAME_DESK, NO_PLACE, NOT_YOURS, NO_EVENT, PHASE_FULL,
     MAIL_FULL, SHELF_FULL, SEAT_BEHIND, MAIL_BEHIND, SHELF_BEHIND, BAD_STAMP, NO_ROOM,
-    OUT_OF_REACH, BAD_LINE
+    OUT_OF_REACH, BAD_LINE, WRONG_OWNER
 };
 
 enum relation { BEFORE = 1, AFTER, SAME, CONCURRENT, CROSSED };
@@ -16,7 +16,7 @@ enum relation { BEFORE = 1, AFTER, SAME, CONCURRENT, CROSSED };
 enum newest { NEITHER, FIRST, SECOND };
 
 enum {
-    BOOK_BYTES = 1456, RECORD_BYTES = 20, ROW_BYTES = 16, STAMP_BYTES = 20,
+    BOOK_BYTES = 1456, RECORD_BYTES = 20, ROW_BYTES = 16, STAMP_BYTES = 20, ODDS_BYTES = 2,
     SEATS_AT = 16, MAIL_AT = 176, SHELF_AT = 816, ROW_AT = 4,
     SEATS = 8, PLACES = 32, SLOTS = 32
 };
@@ -39,6 +39,8 @@ uint8_t plain_before(const uint8_t *book, size_t book_len, size_t first, size_t 
                      uint8_t *answer, size_t answer_len);
 uint8_t plain_compare(const uint8_t *book, size_t book_len, size_t first, size_t second,
                       uint8_t *answer, size_t answer_len);
+uint8_t plain_picture(const uint8_t *book, size_t book_len, const size_t *slots, size_t slots_len,
+                      uint8_t *answer, size_t answer_len, uint8_t *odds, size_t odds_len);
 uint8_t plain_show(const uint8_t *book, size_t book_len, size_t slot, uint8_t *row, size_t row_len);
 uint8_t plain_write(const uint8_t *book, size_t book_len, size_t slot, uint8_t *target,
                     size_t target_len);

@@ -1,7 +1,8 @@
 /* One named call, made many times on an empty or a full book, so that its cost can be counted.
  *
- * calls NAME empty|full|almost TIMES prints the last answer, a sum of every byte lent, and the
- * nanoseconds taken. Almost is full but for its last place.
+ * calls NAME empty|full|almost|pictured TIMES prints the last answer, a sum of every byte lent, and
+ * the nanoseconds taken. Almost is full but for its last place; pictured is full, and its first
+ * slots hold a picture of all desks.
  * Build with PREFIX plain_ and HEADER "book.h", or PREFIX gulambitok_ and HEADER "gulambitok.h".
  */
 #include HEADER
@@ -18,9 +19,12 @@
 
 #define SETUP 8, 255, 255, 100, 200, 100, 100
 
-enum { BOOK = 1456, STAMP = 20, ROW = 16, DESKS = 8, PLACES_AND_SLOTS = 32, RESET_EVERY = 5 };
+enum {
+    BOOK = 1456, STAMP = 20, ROW = 16, ODDS = 2, DESKS = 8, PLACES_AND_SLOTS = 32, RESET_EVERY = 5
+};
 
-static uint8_t book[BOOK], prepared[BOOK], stamp[STAMP], row[ROW], learnt, slot, value;
+static uint8_t book[BOOK], prepared[BOOK], stamp[STAMP], row[ROW], odds[ODDS], learnt, slot, value;
+static const size_t first_slots[DESKS] = {0, 1, 2, 3, 4, 5, 6, 7};
 static uint8_t first_label[STAMP], second_label[STAMP];
 static const uint32_t first_vector[VECTOR_DESKS] = {3, 1, 4, 1, 5, 9, 2, 6};
 static const uint32_t second_vector[VECTOR_DESKS] = {3, 1, 4, 2, 5, 9, 2, 7};
@@ -51,6 +55,18 @@ static void with_stamps(void)
     fresh();
     must(CALL(send)(book, BOOK, 0, 1, 1, stamp, STAMP, &value, 1, &slot, 1));
     must(CALL(receive)(book, BOOK, 1, 0, 1, stamp, STAMP, &learnt, 1, &slot, 1));
+}
+
+static void keep_each_desk(void)
+{
+    for (size_t desk = 0; desk < DESKS; desk++)
+        must(CALL(local)(book, BOOK, desk, 1, stamp, STAMP, &slot, 1));
+}
+
+static void with_picture(void)
+{
+    fresh();
+    keep_each_desk();
 }
 
 /* Desks take turns; each is mailed by its neighbour and resets now and then, so rows hold many phases.
@@ -88,6 +104,16 @@ static void almost_full(void)
     fresh();
     shelve();
     post(PLACES_AND_SLOTS - 1);
+}
+
+/* Word goes on from each stamp of shelve to the next, so any two are at odds: the first make way for
+ * the last event of each desk, where no two are. */
+static void full_with_picture(void)
+{
+    full();
+    for (size_t desk = 0; desk < DESKS; desk++)
+        must(CALL(drop)(book, BOOK, first_slots[desk]));
+    keep_each_desk();
 }
 
 static uint8_t no_call(void)
@@ -166,6 +192,11 @@ static uint8_t compare(void)
     return CALL(compare)(book, BOOK, 0, 1, &value, 1);
 }
 
+static uint8_t picture(void)
+{
+    return CALL(picture)(book, BOOK, first_slots, DESKS, &value, 1, odds, ODDS);
+}
+
 static uint8_t show(void)
 {
     return CALL(show)(book, BOOK, 0, row, ROW);
@@ -207,6 +238,7 @@ static const struct entry { const char *name; void (*least)(void); uint8_t (*mak
     {"reset", fresh, reset},           {"reset_kept", fresh, reset_kept},
     {"drop", with_stamps, drop},       {"discard", with_mail, discard},
     {"before", with_stamps, before},   {"compare", with_stamps, compare},
+    {"picture", with_picture, picture},
     {"show", with_stamps, show},       {"write", with_stamps, write_slot},
     {"label_before", with_stamps, label_before},
     {"label_compare", with_stamps, label_compare},
@@ -228,6 +260,8 @@ static void make_book(const struct entry *entry, const char *which)
         full();
     else if (strcmp(which, "almost") == 0)
         almost_full();
+    else if (strcmp(which, "pictured") == 0)
+        full_with_picture();
     else
         entry->least();
 }
@@ -253,6 +287,7 @@ static unsigned long sum_of_bytes(void)
     unsigned long sum = add_bytes(14695981039346656037ul, book, BOOK);
     sum = add_bytes(sum, stamp, STAMP);
     sum = add_bytes(sum, row, ROW);
+    sum = add_bytes(sum, odds, ODDS);
     sum = add_bytes(sum, &learnt, 1);
     sum = add_bytes(sum, &slot, 1);
     return add_bytes(sum, &value, 1);
@@ -269,7 +304,7 @@ int main(int words, char **word)
 {
     const struct entry *entry = words == 4 ? entry_named(word[1]) : NULL;
     if (!entry) {
-        fprintf(stderr, "usage: calls NAME empty|full|almost TIMES\n");
+        fprintf(stderr, "usage: calls NAME empty|full|almost|pictured TIMES\n");
         return 2;
     }
     prepare(entry, word[2]);

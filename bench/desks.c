@@ -5,14 +5,16 @@
 #include <string.h>
 #include <unistd.h>
 
-enum { LINE_MOST = 64, BLOCK_BYTES = 4096, NUMBERS_MOST = 7 };
+/* A picture may have any number of slots, but its line has room for 14. */
+enum { LINE_MOST = 64, BLOCK_BYTES = 4096, NUMBERS_MOST = 14, ANY = NUMBERS_MOST + 1 };
 
-enum verb { START, LOCAL, SEND, RECEIVE, RESET, DROP, DISCARD, ASK_BEFORE, COMPARE, VERBS };
+enum verb { START, LOCAL, SEND, RECEIVE, RESET, DROP, DISCARD, ASK_BEFORE, COMPARE, PICTURE, VERBS };
 
 static const struct { const char *name; size_t length, numbers; } verbs[VERBS] = {
     [START] = {"start", 5, 7},     [LOCAL] = {"local", 5, 2},       [SEND] = {"send", 4, 3},
     [RECEIVE] = {"receive", 7, 3}, [RESET] = {"reset", 5, 2},       [DROP] = {"drop", 4, 1},
-    [DISCARD] = {"discard", 7, 1}, [ASK_BEFORE] = {"before", 6, 2}, [COMPARE] = {"compare", 7, 2}
+    [DISCARD] = {"discard", 7, 1}, [ASK_BEFORE] = {"before", 6, 2}, [COMPARE] = {"compare", 7, 2},
+    [PICTURE] = {"picture", 7, ANY}
 };
 
 static const char *const relation_words[] = {
@@ -22,7 +24,7 @@ static const char *const relation_words[] = {
 
 struct call {
     enum verb verb;
-    size_t number[NUMBERS_MOST];
+    size_t numbers, number[NUMBERS_MOST];
 };
 
 static uint8_t book[BOOK_BYTES];
@@ -89,12 +91,21 @@ static int read_number(const char *text, size_t *number)
     return 1;
 }
 
-static int read_verb(const char *text, size_t bytes, enum verb *verb)
+/* The bytes of a line are those of the verb and four for each of its numbers. */
+static int has_length(enum verb verb, size_t bytes)
+{
+    size_t of_verb = verbs[verb].length;
+    if (verbs[verb].numbers == ANY)
+        return bytes >= of_verb && bytes <= LINE_MOST && (bytes - of_verb) % 4 == 0;
+    return bytes == of_verb + 4 * verbs[verb].numbers;
+}
+
+static int read_verb(const char *text, size_t bytes, struct call *call)
 {
     for (enum verb v = START; v < VERBS; v++)
-        if (bytes == verbs[v].length + 4 * verbs[v].numbers
-            && memcmp(text, verbs[v].name, verbs[v].length) == 0) {
-            *verb = v;
+        if (has_length(v, bytes) && memcmp(text, verbs[v].name, verbs[v].length) == 0) {
+            call->verb = v;
+            call->numbers = (bytes - verbs[v].length) / 4;
             return 1;
         }
     return 0;
@@ -108,15 +119,15 @@ static int is_event(enum verb verb)
 /* The last number of an event: 1 to keep its stamp, 0 not to. */
 static size_t wish(const struct call *call)
 {
-    return call->number[verbs[call->verb].numbers - 1];
+    return call->number[call->numbers - 1];
 }
 
 static int read_call(const char *text, size_t bytes, struct call *call)
 {
-    if (!read_verb(text, bytes, &call->verb))
+    if (!read_verb(text, bytes, call))
         return 0;
     const char *next = text + verbs[call->verb].length;
-    for (size_t i = 0; i < verbs[call->verb].numbers; i++, next += 4)
+    for (size_t i = 0; i < call->numbers; i++, next += 4)
         if (!read_number(next, &call->number[i]))
             return 0;
     return !is_event(call->verb) || wish(call) <= 1;
@@ -187,6 +198,22 @@ static void answer_compare(const struct call *c)
         put_word(relation_words[found]);
 }
 
+static void answer_picture(const struct call *c)
+{
+    uint8_t yes, odds[ODDS_BYTES];
+    uint8_t answer = plain_picture(book, sizeof book, c->number, c->numbers, &yes, 1, odds,
+                                   sizeof odds);
+    put_number(answer);
+    if (answer != DONE)
+        return;
+    if (yes) {
+        put_word("yes");
+    } else {
+        put_field(odds[0]);
+        put_field(odds[1]);
+    }
+}
+
 static void answer_call(const struct call *c)
 {
     switch (c->verb) {
@@ -199,6 +226,9 @@ static void answer_call(const struct call *c)
     case COMPARE:
         answer_compare(c);
         break;
+    case PICTURE:
+        answer_picture(c);
+        break;
     default:
         put_number(make_quiet_call(c));
     }
@@ -206,7 +236,7 @@ static void answer_call(const struct call *c)
 
 static void answer_line(void)
 {
-    struct call call;
+    struct call call = {0};
     if (read_call(line, line_bytes, &call))
         answer_call(&call);
     else

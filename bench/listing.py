@@ -32,9 +32,9 @@ EVENTS = ("local", "send", "receive", "reset")
 # "kept" stands for an event that is kept, chosen by the weights of the four; the others are not kept.
 WEIGHTS = {
     "filling": {"local": 12, "send": 34, "receive": 14, "reset": 6, "kept": 18,
-                "drop": 1, "discard": 1, "before": 7, "compare": 7},
+                "drop": 1, "discard": 1, "before": 7, "compare": 7, "picture": 7},
     "emptying": {"local": 12, "send": 12, "receive": 24, "reset": 10, "kept": 10,
-                 "drop": 13, "discard": 5, "before": 7, "compare": 7},
+                 "drop": 13, "discard": 5, "before": 7, "compare": 7, "picture": 7},
 }
 
 BAD_LINES = [
@@ -42,7 +42,7 @@ BAD_LINES = [
     " local 000 000", "Local 000 000", "send 000 001", "send 000 001 002",
     "receive 000,001 000", "show 000", "write 000", "keep 000", "start 008 255 255",
     "drop 00x", "drop\t000", "compare 000 001" + 60 * " ", "x" * 64, "x" * 65,
-    "before 000 001\r",
+    "before 000 001\r", "picture 000 1", "picture 000  001", "picture" + 15 * " 000",
 ]
 
 
@@ -71,7 +71,7 @@ class Book:
 
     def shelve(self, desk, keep):
         if keep:
-            self.shelf[lowest_free(self.shelf)] = list(self.rows[desk])
+            self.shelf[lowest_free(self.shelf)] = (desk, list(self.rows[desk]))
 
     def local(self, desk, keep):
         if self.ticks(desk, keep):
@@ -100,7 +100,7 @@ class Book:
             return
         if any(self.behind(desk, row, 2 * self.seat_lag) for _, row in self.mail.values()):
             return
-        if any(self.behind(desk, row, self.shelf_lag) for row in self.shelf.values()):
+        if any(self.behind(desk, row, self.shelf_lag) for _, row in self.shelf.values()):
             return
         self.rows[desk][desk] = (self.rows[desk][desk][0] + 1, 0)
         self.shelve(desk, keep)
@@ -111,10 +111,16 @@ class Book:
     def discard(self, place):
         self.mail.pop(place, None)
 
-    def before(self, first, second):
+    def kept_by(self, desk):
+        return [slot for slot in sorted(self.shelf) if self.shelf[slot][0] == desk]
+
+    def without_stamp(self):
+        return [desk for desk in range(self.desks) if not self.kept_by(desk)]
+
+    def before(self, *slots):
         """A question changes nothing."""
 
-    compare = before
+    compare = picture = before
 
 
 def lowest_free(used):
@@ -148,6 +154,16 @@ def any_sending(choose, book):
     return [desk, any_desk(choose, book)]
 
 
+def any_picture(choose, book):
+    """Mostly a stamp of each desk, its newest or any; now and then any slots, and any number of them."""
+    if book.without_stamp() or choose.random() < 0.05:
+        count = choose.choice([book.desks, choose.randrange(15)])
+        return [any_used(choose, book.shelf) for _ in range(count)]
+    newest = choose.random() < 0.5
+    return [max(kept, key=lambda slot: book.shelf[slot][1][desk]) if newest else choose.choice(kept)
+            for desk, kept in enumerate(map(book.kept_by, range(book.desks)))]
+
+
 def any_numbers(choose, book, verb):
     """All of them but an event's wish to keep."""
     if verb == "receive":
@@ -160,6 +176,8 @@ def any_numbers(choose, book, verb):
         return [any_used(choose, book.shelf)]
     if verb in ("before", "compare"):
         return [any_used(choose, book.shelf), any_used(choose, book.shelf)]
+    if verb == "picture":
+        return any_picture(choose, book)
     return [any_desk(choose, book)]
 
 
@@ -179,6 +197,8 @@ def steered(choose, book, verb, numbers, keep):
         verb, numbers = "send", any_sending(choose, book)
     if verb in ("drop", "before", "compare") and not book.shelf:
         verb, numbers, keep = "local", [any_desk(choose, book)], 1
+    if verb == "picture" and book.without_stamp():
+        verb, numbers, keep = "local", [choose.choice(book.without_stamp())], 1
     if verb in EVENTS and book.no_slot(keep):
         return "drop", [any_used(choose, book.shelf)], 0
     if verb in ("local", "send", "receive") and book.phase_full(numbers[0]):
