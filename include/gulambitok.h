@@ -40,7 +40,7 @@ enum {
     GULAMBITOK_SHELF_BEHIND = 13, /* reset; the entry for the desk lags A in a kept row */
     GULAMBITOK_BAD_STAMP = 14,    /* a stamp record does not read */
     GULAMBITOK_NO_ROOM = 15,      /* a buffer is too short for what the call would write there */
-    GULAMBITOK_OUT_OF_REACH = 16, /* comparison beyond reach */
+    GULAMBITOK_OUT_OF_REACH = 16, /* comparison or picture beyond reach */
     GULAMBITOK_BAD_LINE = 17,     /* the program desks only */
     GULAMBITOK_WRONG_OWNER = 18   /* picture; the slot given for a desk holds another desk's stamp */
 };
