@@ -13,7 +13,7 @@ use Rattle.tools.specs.Lists.{byte, tab}
 use Rattle.tools.specs.Reasons.{ifDone}
 use Rattle.tools.proofs.Lists.{is-tab}
 use Rattle.ring.specs.Phases.{Gap}
-use Rattle.rules.specs.declared.Setup.{Setup}
+use Rattle.rules.specs.Setups.{Setup}
 use Rattle.rules.specs.declared.Told.{Told}
 use Rattle.rules.specs.declared.Compared.{Compared}
 use Rattle.rules.specs.Model.{Row, before, compare, show, write, Answer, byIn, rowIn, noSlot, gapFrom, done, askTells}

@@ -10,7 +10,7 @@ use borrow.Author.Tests.{eqb-false, ne-eqb, lt-ltb, not-true}
 use Rattle.tools.specs.Lists.{byte}
 use Rattle.tools.proofs.Tests.{not-off}
 use Rattle.ring.specs.Phases.{Pair, lagGap}
-use Rattle.rules.specs.declared.Setup.{Setup}
+use Rattle.rules.specs.Setups.{Setup}
 use Rattle.rules.specs.Model.{byIn, rowIn, noSlot, near, gap, gapHeld, gapFrom}
 use Rattle.rules.specs.Calls.{ringOf}
 use Rattle.rules.proofs.Setups.{permitted}

@@ -54,7 +54,7 @@ pub fn told(book: &[u8], first: usize, second: usize) -> Told
     requires { ⌜ slotsNumber (now book) first second ≡ 0 ⌝ }
     ensures { λ r. ⌜ toldSays r ≡ answerTo (now (book .entry)) (on (Model.before first second)) ⌝ }
 {
-    let setup = parts::setup_of(book);
+    let setup = parts::numbers_of(book);
     let owner = owner_of(book, first);
     let other = owner_of(book, second);
     comparing::told(setup, owner, other, way_of(book, first, second))
@@ -65,7 +65,7 @@ pub fn compared(book: &[u8], first: usize, second: usize) -> Compared
     requires { ⌜ slotsNumber (now book) first second ≡ 0 ⌝ }
     ensures { λ r. ⌜ comparedSays r ≡ answerTo (now (book .entry)) (on (Model.compare first second)) ⌝ }
 {
-    let setup = parts::setup_of(book);
+    let setup = parts::numbers_of(book);
     let owner = owner_of(book, first);
     let other = owner_of(book, second);
     let there = way_of(book, first, second);

@@ -1,32 +1,33 @@
 -- What a call leaves says what the rules say, and is sound.
 -- Assumes nothing.
-use Prim.Native.Nat.{ℕ, zero, suc}
+use Prim.Native.Nat.{ℕ, zero, suc, _<_}
 use mathlib.Core.Path.{_≡_, refl, sym, ap, _∙_}
 use mathlib.Core.Bool.{Bool, true, false, false≢true, not}
 use mathlib.Core.List.{List}
 use mathlib.Core.Logic.{_⊎_, inl, inr, _↔_}
 use native.Mathlib.Omega.{arith}
 use Rattle.tools.specs.Tests.{pick}
+use Rattle.tools.specs.Lists.{byte}
 use Rattle.tools.specs.Reasons.{ifDone}
 use Rattle.tools.proofs.Reasons.{if-undone}
-use Rattle.rules.specs.declared.Setup.{Setup}
-use Rattle.rules.specs.Setups.{permits}
+use Rattle.rules.specs.Setups.{Setup, limit, permits}
 use Rattle.rules.specs.Numbers.{BadBook, NoEvent, number}
 use Rattle.rules.specs.Model.{Act, fresh, Answer, refusal}
 use Rattle.rules.specs.Calls.{Book, Call, start, on, Turn, ringOf, settled, call}
 use Rattle.book.specs.Fits.{Fits}
 use Rattle.rules.proofs.Setups.{permitted}
+use Rattle.rules.proofs.Frames.{setup-stays}
 use Rattle.book.proofs.Fits.{fresh-fits, step-fits}
 use Rattle.rules.proofs.Steps.{step-refused}
 use Rattle.rules.proofs.Reasons.{never-bad}
 use Rattle.rules.proofs.Due.{call-no-event}
-use Rattle.book.specs.Layout.{fields, setupOf}
+use Rattle.book.specs.Layout.{tagBSpot, spot, fields, setupOf}
 use Rattle.book.specs.Sound.{sound}
 use Rattle.book.specs.Codec.{read, write, decode, encode}
 use Rattle.book.specs.Answers.{admits, turnOn, answerTo, bookAfter}
 use Rattle.book.proofs.Bytes.{layout-holds}
 use Rattle.book.proofs.Soundness.{sound-setup, sound-fits}
-use Rattle.book.proofs.Codec.{decode-encode}
+use Rattle.book.proofs.Codec.{limit-seen, decode-encode}
 use Rattle.book.proofs.Kept.{holds-sound}
 
 pub answer-is : (s : List ℕ) (c : Call) → admits s c ≡ true → answerTo s c ≡ turnOn s c .answer
@@ -132,3 +133,31 @@ after-sound s c a h =
     go zero e q = whole-sound (turnOn s c .book) (turn-whole s c a e)
     go (suc n) e (inl q) = absurd (omega arith)
     go (suc n) e (inr q) = q
+
+-- the limits that stand in the seats after a call are those of the setup that the rules have then
+limits-after : (s : List ℕ) (c : Call) → admits s c ≡ true → sound (bookAfter s c) ≡ true → (j : ℕ) → j < 8
+    → byte (bookAfter s c) (spot j tagBSpot) ≡ limit (turnOn s c .book .setup) j
+limits-after s c a h j l = limit-seen (bookAfter s c) h j l ∙ ap (λ (b : Book). limit (b .setup) j) (after-decode s c a)
+
+-- an accepted start writes each desk's limit into its seat, and 0 into the others
+pub limits-written : (s : List ℕ) (X : Setup) → answerTo s (start X) .number ≡ 0 → (j : ℕ) → j < 8
+    → byte (bookAfter s (start X)) (spot j tagBSpot) ≡ limit X j
+limits-written s X z j l = go (admits s (start X)) refl
+  where
+    go : (t : Bool) → admits s (start X) ≡ t → byte (bookAfter s (start X)) (spot j tagBSpot) ≡ limit X j
+    go true a =
+        let d = ap (λ (x : Answer). x .number) (sym (answer-is s (start X) a)) ∙ z in
+        limits-after s (start X) a (after-sound s (start X) a (inl d)) j l
+        ∙ start-turn (decode s) X (λ t. t .answer .number ≡ 0 → limit (t .book .setup) j ≡ limit X j) (λ p e. refl) (λ e. absurd (omega arith)) d
+    go false a = absurd (let e = bad-book s (start X) .1 a in omega arith)
+
+-- no other call changes one
+pub limits-stay : (s : List ℕ) (c : Act) (j : ℕ) → j < 8 → byte (bookAfter s (on c)) (spot j tagBSpot) ≡ byte s (spot j tagBSpot)
+unfolding admits
+limits-stay s c j l = go (sound s) refl
+  where
+    go : (t : Bool) → sound s ≡ t → byte (bookAfter s (on c)) (spot j tagBSpot) ≡ byte s (spot j tagBSpot)
+    go true h =
+        limits-after s (on c) h (after-sound s (on c) h (inr h)) j l ∙ ap (λ (X : Setup). limit X j) (setup-stays ringOf (decode s) c)
+        ∙ sym (limit-seen s h j l)
+    go false h = ap (λ (b : List ℕ). byte b (spot j tagBSpot)) (refused s (on c) (λ z. let e = bad-book s (on c) .1 h in omega arith))

@@ -25,11 +25,11 @@ use Rattle.book.proofs.Codec.{record-seat, record-mail, record-slot, by
 
 module _ (s : List ℕ) (h : sound s ≡ true) where
   -- the row of a record, by the tables
-  row-told : (k j : ℕ) → k < records → j < 8 → rowAt s k j ≡ recordOf (tablesOf s) k .row j
+  row-told : (k j : ℕ) → k < records → j < 8 → rowAt s k j ≡ recordOf (setupOf s) (tablesOf s) k .row j
   row-told k j lk lj = pair-is (write (decode s)) s (decode-holds s h) k j lk lj
 
   pub mail-row : (p j : ℕ) → p < 32 → j < 8 → rowAt s (mailFrom + p) j ≡ rowIn (tablesOf s .mail p) j
-  mail-row p j lp lj = row-told (mailFrom + p) j (omega arith) lj ∙ ap (λ (r : Record). r .row j) (record-mail (tablesOf s) p lp)
+  mail-row p j lp lj = row-told (mailFrom + p) j (omega arith) lj ∙ ap (λ (r : Record). r .row j) (record-mail (setupOf s) (tablesOf s) p lp)
 
   on-ring : 0 < byte s 3
   on-ring = let p = permitted (setupOf s) (sound-setup s h) .mailed in omega arith
@@ -59,27 +59,27 @@ module _ (s : List ℕ) (h : sound s ≡ true) where
 
   pub phase-below : (k j : ℕ) → k < records → j < 8 → byte s (spot k (rowSpot + phaseSpot j)) < byte s 3
   phase-below k j lk lj =
-      let e : rowAt s k j .phase ≡ recordOf (tablesOf s) k .row j .phase = ap (λ (q : Pair). q .phase) (row-told k j lk lj) in
-      let l = by-kind (λ k. recordOf (tablesOf s) k .row j .phase < byte s 3) seat mail slot k lk in
+      let e : rowAt s k j .phase ≡ recordOf (setupOf s) (tablesOf s) k .row j .phase = ap (λ (q : Pair). q .phase) (row-told k j lk lj) in
+      let l = by-kind (λ k. recordOf (setupOf s) (tablesOf s) k .row j .phase < byte s 3) seat mail slot k lk in
       omega arith
     where
-      seat : (i : ℕ) → i < 8 → recordOf (tablesOf s) i .row j .phase < byte s 3
+      seat : (i : ℕ) → i < 8 → recordOf (setupOf s) (tablesOf s) i .row j .phase < byte s 3
       seat i l =
-          rw (record-seat (tablesOf s) i l)
+          rw (record-seat (setupOf s) (tablesOf s) i l)
           (⊎-elim (λ (m : i < byte s 2). fits-below (byte s 5) (tablesOf s .seat i .row) j (fits .seats i m))
           (λ (m : byte s 2 ≤ i).
           let z : tablesOf s .seat i .row j .phase ≡ 0 = ap (λ (q : Seat). q .row j .phase) (fits .beyond i m) in
           omega (arith, z, on-ring)) (lt-or-le i (byte s 2)))
 
-      mail : (p : ℕ) → p < 32 → recordOf (tablesOf s) (mailFrom + p) .row j .phase < byte s 3
-      mail p l = rw (record-mail (tablesOf s) p l) (go (tablesOf s .mail p) (fits .mail p))
+      mail : (p : ℕ) → p < 32 → recordOf (setupOf s) (tablesOf s) (mailFrom + p) .row j .phase < byte s 3
+      mail p l = rw (record-mail (setupOf s) (tablesOf s) p l) (go (tablesOf s .mail p) (fits .mail p))
         where
           go : (o : Option Held) → Each (MailFits (setupOf s) (phases (tablesOf s)) p) o → rowIn o j .phase < byte s 3
           go none f = on-ring
           go (some w) f = fits-below (2 * byte s 5) (w .row) j (f .row)
 
-      slot : (p : ℕ) → p < 32 → recordOf (tablesOf s) (shelfFrom + p) .row j .phase < byte s 3
-      slot p l = rw (record-slot (tablesOf s) p l) (go (tablesOf s .shelf p) (fits .shelf p))
+      slot : (p : ℕ) → p < 32 → recordOf (setupOf s) (tablesOf s) (shelfFrom + p) .row j .phase < byte s 3
+      slot p l = rw (record-slot (setupOf s) (tablesOf s) p l) (go (tablesOf s .shelf p) (fits .shelf p))
         where
           go : (o : Option Held) → Each (SlotFits (setupOf s) (phases (tablesOf s)) p) o → rowIn o j .phase < byte s 3
           go none f = on-ring

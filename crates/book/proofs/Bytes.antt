@@ -6,15 +6,16 @@ use mathlib.Core.List.{List}
 use mathlib.Core.Logic.{⊎-elim}
 use native.Mathlib.Omega.{arith}
 use borrow.Author.Tests.{lt-ltb, le-ltb, eq-eqb, ne-eqb}
+use lib.ListN.{take}
 use lib.Seq.{ext-getD}
 use Rattle.tools.specs.Lists.{byte, tab}
 use Rattle.tools.proofs.Tests.{lt-or-le, eq-or-ne}
-use Rattle.tools.proofs.Lists.{length-tab, tab-at}
-use Rattle.rules.specs.declared.Setup.{Setup}
+use Rattle.tools.proofs.Lists.{length-tab, tab-at, tab-same}
+use Rattle.rules.specs.Setups.{Setup}
 use Rattle.rules.specs.Replies.{rowByte}
 use Rattle.rules.proofs.RowBytes.{row-phase, row-clock, row-alike}
-use Rattle.book.specs.Layout.{tagASpot, tagBSpot, bookSize, records, rowSpot, phaseSpot, clockSpot}
-use Rattle.book.specs.Layout.{Record, Fields, spot, headByte, mark0, mark1, markedByte, recordByte, byteOf, layout, setupOf, rowAt}
+use Rattle.book.specs.Layout.{tagASpot, tagBSpot, bookSize, records, seats, rowSpot, phaseSpot, clockSpot}
+use Rattle.book.specs.Layout.{Record, Fields, spot, headByte, mark0, mark1, markedByte, recordByte, byteOf, layout, limitsOf, setupOf, rowAt}
 use Rattle.book.specs.Layout.{fields, Holds}
 
 -- the row that stands in the bytes
@@ -91,15 +92,22 @@ layout-holds f =
           sym (tab-at bookSize (byteOf f) (spot k c) (omega arith) ∙ rw (le-ltb (spot k c) 16 (omega arith), d, m));
     }
 
+-- the limits that fields tell: those of the desks in the seats' records
+abbrev pub limitsIn : Fields → List ℕ
+limitsIn f = take (f .setup .desks) (tab 0 seats (λ j. f .at j .tagB))
+
 -- what the bytes that hold fields tell of them
 module _ (f : Fields) (b : List ℕ) (h : Holds f b) where
-  pub setup-is : setupOf b ≡ f .setup
-  unfolding headByte
-  setup-is =
+  pub setup-is : limitsIn f ≡ f .setup .limits → setupOf b ≡ f .setup
+  unfolding headByte markedByte
+  setup-is e =
+      let seen = tab-same seats (λ j. byte b (spot j tagBSpot)) (λ j. f .at j .tagB) (λ j l. sym (h .there j 3 (omega arith) (omega arith))) in
+      let told : limitsOf b ≡ f .setup .limits
+      = ap (λ (l : List ℕ). take (byte b 2) l) seen ∙ ap (λ n. take n (tab 0 seats (λ j. f .at j .tagB))) (sym (h .head 2 (omega arith))) ∙ e in
       λ i. record {
         desks = sym (h .head 2 (omega arith)) i;
         phases = sym (h .head 3 (omega arith)) i;
-        clocks = sym (h .head 4 (omega arith)) i;
+        limits = told i;
         seatLag = sym (h .head 5 (omega arith)) i;
         shelfLag = sym (h .head 6 (omega arith)) i;
         back = sym (h .head 7 (omega arith)) i;

@@ -13,7 +13,7 @@ use Rattle.tools.proofs.Tests.{lt-or-le, each, all-at}
 use Rattle.ring.specs.Phases.{Lag, Pair, lagOf}
 use Rattle.ring.specs.Remainder.{remainderOf}
 use Rattle.ring.proofs.Ring.{lag-remainder}
-use Rattle.rules.specs.declared.Setup.{Setup}
+use Rattle.rules.specs.Setups.{Setup}
 use Rattle.rules.proofs.Setups.{permitted}
 use Rattle.book.specs.Layout.{Fields, fields, setupOf, records, seats}
 use Rattle.book.specs.Sound.{pairOk, columnOk, rowOk, seatNear, seatOk, mailOk, slotOk, recordOk, recordSound, soundBy, sound}

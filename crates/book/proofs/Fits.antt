@@ -11,7 +11,7 @@ use Rattle.tools.specs.Tables.{put, putAt, Each}
 use Rattle.tools.proofs.Tables.{put-all, put-both, put-same, put-at-all, Each-map}
 use Rattle.ring.specs.Phases.{lagOf, nextOf, ring, Pair, isLater, later}
 use Rattle.ring.proofs.Ring.{lag-self, lag-next, next-below, later-lag}
-use Rattle.rules.specs.declared.Setup.{Setup}
+use Rattle.rules.specs.Setups.{Setup, limit}
 use Rattle.rules.specs.Model.{Row, Seat, Held, Tables, Act, local, reset, send, receive, drop, discard, ask}
 use Rattle.rules.specs.Model.{step, done, why, fresh, idle, zeros, grown, taken, merged, turned, seated, freeMail, slotFor, rowIn}
 use Rattle.rules.specs.Model.{used, own, lags, seatLags, tick, turn, settle}
@@ -25,7 +25,7 @@ pub zeros-fit : (X : Setup) → Permitted X → (o : ℕ → ℕ) → ((k : ℕ)
 zeros-fit X ok o z B k = (
   λ l. record {
     phase = let a = ok .mailed in omega arith;
-    clock = let a = ok .clocks in omega arith;
+    clock = let a = ok .ticks k l .0 in omega arith;
     lag = rw (z k, lag-self (X .phases) 0) (omega arith);
   },
   λ l. refl,
@@ -52,16 +52,16 @@ Z X = ring (X .phases)
 
 module _ (X : Setup) (ok : Permitted X) (b : Tables) (w : Fits X b) where
   -- j's own pair
-  own-range : (j : ℕ) → j < X .desks → InRange X (phases b j) (X .seatLag) (own b j)
+  own-range : (j : ℕ) → j < X .desks → InRange X (phases b j) (X .seatLag) j (own b j)
   own-range j l = w .seats j l j .0 l
 
   -- a row that fits but for column j, where it holds a pair that fits
-  put-fits : (o : ℕ → ℕ) (B : ℕ) (r : Row) (j : ℕ) (q : Pair) → j < X .desks → InRange X (o j) B q
+  put-fits : (o : ℕ → ℕ) (B : ℕ) (r : Row) (j : ℕ) (q : Pair) → j < X .desks → InRange X (o j) B j q
       → ((k : ℕ) → (k ≡ j → ⊥) → PairFits X (o k) B k (r k)) → RowFits X o B (put r j q)
   put-fits o B r j q l here there =
       put-all (λ k (p : Pair). PairFits X (o k) B k p) r j q (λ m. here, λ m. absurd (omega arith)) there
 
-  grown-fits : (j : ℕ) → j < X .desks → own b j .clock + 1 < X .clocks → RowFits X (phases b) (X .seatLag) (grown b j)
+  grown-fits : (j : ℕ) → j < X .desks → own b j .clock + 1 < limit X j → RowFits X (phases b) (X .seatLag) (grown b j)
   grown-fits j l c =
       put-fits (phases b) (X .seatLag) (b .seat j .row) j (tick (own b j)) l
       (record { phase = own-range j l .phase; clock = c; lag = own-range j l .lag }) (λ k ne. w .seats j l k)
@@ -81,7 +81,7 @@ module _ (X : Setup) (ok : Permitted X) (b : Tables) (w : Fits X b) where
         g .1,
       )
 
-  merged-fits : (j : ℕ) (m : Row) (C : ℕ) → j < X .desks → own b j .clock + 1 < X .clocks → RowFits X (phases b) C m
+  merged-fits : (j : ℕ) (m : Row) (C : ℕ) → j < X .desks → own b j .clock + 1 < limit X j → RowFits X (phases b) C m
       → RowFits X (phases b) (X .seatLag) (merged (Z X) b j m)
   merged-fits j m C l c f =
       put-fits (phases b) (X .seatLag) (λ k. taken (Z X) b j m k .pair) j (tick (own b j)) l
@@ -151,7 +151,7 @@ module _ (X : Setup) (ok : Permitted X) (b : Tables) (w : Fits X b) where
       (nextOf (X .phases) (phases b j)) (
         λ d. record {
           phase = next-below (X .phases) (phases b j) (omega arith);
-          clock = let c = ok .clocks in omega arith;
+          clock = let c = ok .ticks j l .0 in omega arith;
           lag = rw (lag-self (X .phases) (nextOf (X .phases) (phases b j))) (omega arith);
         },
         λ d. absurd (omega arith),

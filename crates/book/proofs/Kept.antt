@@ -15,18 +15,18 @@ use Rattle.tools.specs.Tables.{Each}
 use Rattle.tools.specs.Lists.{byte}
 use Rattle.tools.proofs.Tests.{all-in, lt-or-le}
 use Rattle.ring.specs.Phases.{Pair, lagOf}
-use Rattle.rules.specs.declared.Setup.{Setup}
-use Rattle.rules.specs.Setups.{permits}
+use Rattle.rules.specs.Setups.{Setup, limit, permits}
 use Rattle.rules.specs.Model.{Row, Seat, Held, Tables, rowIn, zeros}
 use Rattle.rules.specs.Model.{phases}
 use Rattle.book.specs.Fits.{PairFits, RowFits, MailFits, SlotFits, Fits}
 use Rattle.book.specs.Layout.{tagASpot, tagBSpot, bookSize, records, shelfFrom, mailFrom}
 use Rattle.book.specs.Layout.{Record, Fields, fields, setupOf, rowAt, spot, mark0, mark1, headByte, markedByte, Holds}
-use Rattle.book.specs.Sound.{pairOk, columnOk, rowOk, columnZero, rowZero, seatRest, seatNear, seatOk, mailOk, slotOk, recordOk}
+use Rattle.book.specs.Sound.{pairOk, columnOk, rowOk, columnZero, rowZero, seatLimit, seatRest, seatNear, seatOk, mailOk, slotOk, recordOk}
 use Rattle.book.specs.Sound.{spareZero, headOk, recordSound, soundBy, sound}
 use Rattle.book.specs.Codec.{tagBy, tagTo, writeMail, writeSlot, recordOf, write}
+use Rattle.rules.proofs.Setups.{Permitted, permitted, permits-limits, limit-ok}
 use Rattle.book.proofs.Bytes.{setup-is, tagA-is, tagB-is, pair-is}
-use Rattle.book.proofs.Codec.{record-seat, record-mail, record-slot, by-kind}
+use Rattle.book.proofs.Codec.{record-seat, record-mail, record-slot, by-kind, written-limits}
 
 pair-ok : (X : Setup) (B o j : ℕ) (q : Pair) → PairFits X o B j q → pairOk lagOf X B o j q ≡ true
 unfolding pairOk allOf
@@ -36,7 +36,7 @@ pair-ok X B o j q f =
     rw (
       lt-ltb j (X .desks) l,
       lt-ltb (q .phase) (X .phases) (r .phase),
-      lt-ltb (q .clock) (X .clocks) (r .clock),
+      lt-ltb (q .clock) (limit X j) (r .clock),
       le-leb (lagOf (X .phases) o (q .phase)) B (r .lag),
     ))
     (λ (l : X .desks ≤ j). rw (le-ltb j (X .desks) l, f .1 l)) (lt-or-le j (X .desks))
@@ -46,9 +46,12 @@ module _ (X : Setup) (p : permits X ≡ true) (t : Tables) (w : Fits X t) (b : L
   abbrev F : Fields
   F = write (record { setup = X; tables = t })
 
+  ok : Permitted X
+  ok = permitted X p
+
   -- the numbers that the bytes hold
   setup-told : setupOf b ≡ X
-  setup-told = setup-is F b h
+  setup-told = setup-is F b h (written-limits X ok t)
 
   desks-told : byte b 2 ≡ X .desks
   desks-told = ap (λ (Y : Setup). Y .desks) setup-told
@@ -62,9 +65,9 @@ module _ (X : Setup) (p : permits X ≡ true) (t : Tables) (w : Fits X t) (b : L
   own-told : (j : ℕ) → j < 8 → rowAt b j j .phase ≡ phases t j
   own-told j l =
       ap (λ (q : Pair). q .phase) (pair-is F b h j j (omega arith) l)
-      ∙ ap (λ (r : Record). r .row j .phase) (record-seat t j l)
+      ∙ ap (λ (r : Record). r .row j .phase) (record-seat X t j l)
 
-  row-ok : (B C k : ℕ) → B ≡ C → k < records → (r : Row) → recordOf t k .row ≡ r → RowFits X (phases t) C r
+  row-ok : (B C k : ℕ) → B ≡ C → k < records → (r : Row) → recordOf X t k .row ≡ r → RowFits X (phases t) C r
       → rowOk lagOf (fields b) B k ≡ true
   unfolding rowOk columnOk
   row-ok B C k same lk r e f =
@@ -73,7 +76,7 @@ module _ (X : Setup) (p : permits X ≡ true) (t : Tables) (w : Fits X t) (b : L
       rw (columnOk, setup-told, own-told j l, pair-is F b h k j lk l ∙ ap (λ (ρ : Row). ρ j) e, same)
       (pair-ok X C (phases t j) j (r j) (f j)))
 
-  zero-ok : (k : ℕ) → k < records → recordOf t k .row ≡ zeros → rowZero (fields b) k ≡ true
+  zero-ok : (k : ℕ) → k < records → recordOf X t k .row ≡ zeros → rowZero (fields b) k ≡ true
   unfolding rowZero columnZero allOf
   zero-ok k lk e =
       all-in (columnZero (fields b) k) 8
@@ -83,17 +86,24 @@ module _ (X : Setup) (p : permits X ≡ true) (t : Tables) (w : Fits X t) (b : L
 
   -- each kind of record
   seat-ok : (j : ℕ) → j < 8 → seatOk lagOf (fields b) j ≡ true
-  unfolding seatOk seatRest seatNear allOf
-  seat-ok j l = rw (seatOk, tag, filler, rest, near)
+  unfolding seatOk seatLimit seatRest seatNear allOf
+  seat-ok j l = rw (seatOk, tag, limited, rest, near)
     where
       has : byte b (spot j tagASpot) ≡ pick (t .seat j .started) 1 0
-      has = tagA-is F b h j (omega arith) ∙ ap (λ (r : Record). r .tagA) (record-seat t j l)
+      has = tagA-is F b h j (omega arith) ∙ ap (λ (r : Record). r .tagA) (record-seat X t j l)
 
-      filler : byte b (spot j tagBSpot) ≡ 0
-      filler = tagB-is F b h j (omega arith) ∙ ap (λ (r : Record). r .tagB) (record-seat t j l)
+      its : byte b (spot j tagBSpot) ≡ limit X j
+      its = tagB-is F b h j (omega arith) ∙ ap (λ (r : Record). r .tagB) (record-seat X t j l)
 
-      row : recordOf t j .row ≡ t .seat j .row
-      row = ap (λ (r : Record). r .row) (record-seat t j l)
+      limited : seatLimit (fields b) j ≡ true
+      limited =
+          ⊎-elim (λ (m : j < X .desks).
+          rw (seatLimit, lt-ltb j (byte b 2) (omega (arith, m, desks-told)), its) (limit-ok X (permits-limits X p) j m))
+          (λ (m : X .desks ≤ j).
+          rw (seatLimit, le-ltb j (byte b 2) (omega (arith, m, desks-told)), its, ok .beyond j m)) (lt-or-le j (X .desks))
+
+      row : recordOf X t j .row ≡ t .seat j .row
+      row = ap (λ (r : Record). r .row) (record-seat X t j l)
 
       low : (u : Bool) → pick u 1 0 ≤ 1
       low true = omega arith
@@ -125,8 +135,8 @@ module _ (X : Setup) (p : permits X ≡ true) (t : Tables) (w : Fits X t) (b : L
   unfolding mailOk allOf
   mail-ok q l = go (t .mail q) refl (w .mail q)
     where
-      kept : recordOf t (mailFrom + q) ≡ writeMail (t .mail q)
-      kept = record-mail t q l
+      kept : recordOf X t (mailFrom + q) ≡ writeMail (t .mail q)
+      kept = record-mail X t q l
 
       go : (o : Option Held) → t .mail q ≡ o → Each (MailFits X (phases t) q) o → mailOk lagOf (fields b) (mailFrom + q) ≡ true
       go none e f =
@@ -160,8 +170,8 @@ module _ (X : Setup) (p : permits X ≡ true) (t : Tables) (w : Fits X t) (b : L
   unfolding slotOk allOf
   slot-ok q l = go (t .shelf q) refl (w .shelf q)
     where
-      kept : recordOf t (shelfFrom + q) ≡ writeSlot (t .shelf q)
-      kept = record-slot t q l
+      kept : recordOf X t (shelfFrom + q) ≡ writeSlot (t .shelf q)
+      kept = record-slot X t q l
 
       filler : byte b (spot (shelfFrom + q) tagBSpot) ≡ 0
       filler = tagB-is F b h (shelfFrom + q) (omega arith) ∙ ap (λ (r : Record). r .tagB) kept
@@ -222,6 +232,7 @@ module _ (X : Setup) (p : permits X ≡ true) (t : Tables) (w : Fits X t) (b : L
         headOk,
         eq-eqb (byte b 0) 0x42 (sym (h .head 0 (omega arith))),
         eq-eqb (byte b 1) 0x4B (sym (h .head 1 (omega arith))),
+        eq-eqb (byte b 4) 0 (sym (h .head 4 (omega arith))),
         all-in (spareZero b) 7 spare,
       )
 

@@ -14,15 +14,14 @@ use Rattle.tools.specs.Tables.{Each}
 use Rattle.tools.specs.Lists.{byte}
 use Rattle.tools.proofs.Tests.{each, all-at}
 use Rattle.ring.specs.Phases.{Pair, lagOf}
-use Rattle.rules.specs.declared.Setup.{Setup}
-use Rattle.rules.specs.Setups.{permits}
+use Rattle.rules.specs.Setups.{Setup, limit, permits}
 use Rattle.rules.specs.Model.{Held, zeros, idle}
 use Rattle.rules.specs.Model.{phases}
 use Rattle.book.specs.Fits.{PairFits, RowFits, MailFits, SlotFits, Fits}
 use Rattle.rules.proofs.Setups.{permitted}
 use Rattle.book.specs.Layout.{tagASpot, tagBSpot, bookSize, records, shelfFrom, mailFrom, seats}
 use Rattle.book.specs.Layout.{Fields, fields, setupOf, spot, mark0, mark1, headByte, Holds}
-use Rattle.book.specs.Sound.{pairOk, columnOk, rowOk, columnZero, rowZero, seatRest, seatNear, seatOk, mailOk, slotOk, recordOk}
+use Rattle.book.specs.Sound.{pairOk, columnOk, rowOk, columnZero, rowZero, seatLimit, seatRest, seatNear, seatOk, mailOk, slotOk, recordOk}
 use Rattle.book.specs.Sound.{spareZero, headOk, recordSound, soundBy, sound}
 use Rattle.book.specs.Codec.{readRow, readSeat, readHeld, read}
 use Rattle.book.proofs.Bytes.{record-bytes, row-at}
@@ -62,14 +61,14 @@ head-is b h zero l = sym (eqb-true _ _ (each _ h 0))
 head-is b h (suc zero) l = sym (eqb-true _ _ (each _ h 1))
 head-is b h (suc (suc zero)) l = refl
 head-is b h (suc (suc (suc zero))) l = refl
-head-is b h (suc (suc (suc (suc zero)))) l = refl
+head-is b h (suc (suc (suc (suc zero)))) l = sym (eqb-true _ _ (each _ h 2))
 head-is b h (suc (suc (suc (suc (suc zero))))) l = refl
 head-is b h (suc (suc (suc (suc (suc (suc zero)))))) l = refl
 head-is b h (suc (suc (suc (suc (suc (suc (suc zero))))))) l = refl
 head-is b h (suc (suc (suc (suc (suc (suc (suc (suc zero)))))))) l = refl
 head-is b h (suc (suc (suc (suc (suc (suc (suc (suc (suc i))))))))) l =
     let e : 9 + i ≡ suc (suc (suc (suc (suc (suc (suc (suc (suc i)))))))) = omega arith in
-    sym (ap (byte b) (sym e) ∙ eqb-true _ _ (all-at (spareZero b) 7 i (omega arith) (each _ h 2)))
+    sym (ap (byte b) (sym e) ∙ eqb-true _ _ (all-at (spareZero b) 7 i (omega arith) (each _ h 3)))
 
 pub sound-holds : (b : List ℕ) → sound b ≡ true → Holds (fields b) b
 sound-holds b s =
@@ -88,7 +87,7 @@ unfolding pairOk
 pair-fits X B o j q h = go (ltb j (X .desks)) refl h
   where
     go : (t : Bool) → ltb j (X .desks) ≡ t
-        → pick t (allOf (ltb (q .phase) (X .phases) ∷ ltb (q .clock) (X .clocks) ∷ leb (lagOf (X .phases) o (q .phase)) B ∷ []))
+        → pick t (allOf (ltb (q .phase) (X .phases) ∷ ltb (q .clock) (limit X j) ∷ leb (lagOf (X .phases) o (q .phase)) B ∷ []))
         (allOf (eqb (q .phase) 0 ∷ eqb (q .clock) 0 ∷ [])) ≡ true
         → PairFits X o B j q
     go true e p =
@@ -132,7 +131,7 @@ module _ (f : Fields) (few : f .setup .desks ≤ 8) where
 -- what a sound book says of a seat, of a mail place and of a slot
 pub record SeatSound (f : Fields) (k : ℕ) : Type 0 where
   pub tag : f .at k .tagA ≤ 1
-  pub filler : f .at k .tagB ≡ 0
+  pub beyond : f .setup .desks ≤ k → f .at k .tagB ≡ 0
   pub rest : f .at k .tagA ≡ 0 → readRow (f .at k .row) ≡ zeros
   pub desk : (f .at k .tagA ≡ 0 → ⊥) → k < f .setup .desks
   pub row : k < f .setup .desks → RowFits (f .setup) (phases (read f)) (f .setup .seatLag) (readRow (f .at k .row))
@@ -154,11 +153,11 @@ pub record SlotSound (f : Fields) (k : ℕ) : Type 0 where
 
 module _ (f : Fields) (few : f .setup .desks ≤ 8) (k : ℕ) where
   pub seat-sound : seatOk lagOf f k ≡ true → SeatSound f k
-  unfolding seatOk seatRest seatNear
+  unfolding seatOk seatLimit seatRest seatNear
   seat-sound h =
       record {
         tag = leb-true _ _ (each _ h 0);
-        filler = eqb-true _ _ (each _ h 1);
+        beyond = λ l. eqb-true (f .at k .tagB) 0 (rw (seatLimit, le-ltb k (f .setup .desks) l) at (each _ h 1));
         rest = λ e. row-zero f few k (rw (seatRest, eq-eqb (f .at k .tagA) 0 e) at (each _ h 2));
         desk = λ n. ltb-true k (f .setup .desks) (rw (seatRest, ne-eqb (f .at k .tagA) 0 n) at (each _ h 2));
         row = λ l. row-fits f few (f .setup .seatLag) k (rw (seatNear, lt-ltb k (f .setup .desks) l) at (each _ h 3));

@@ -6,6 +6,7 @@ use mathlib.Core.Bool.{true}
 use mathlib.Core.List.{List}
 use borrow.Author.Tests.{lt-ltb}
 use Rattle.tools.specs.Lists.{byte}
+use Rattle.rules.specs.Setups.{limit}
 use Rattle.rules.specs.Model.{Row, own}
 use Rattle.rules.proofs.Setups.{permitted}
 use Rattle.book.specs.Layout.{shelfFrom, rowAt, setupOf, fields}
@@ -30,5 +31,5 @@ slot-at s p l = rw (lt-ltb p 32 l)
 pub few-desks : (s : List ℕ) → sound s ≡ true → byte s 2 ≤ 8
 few-desks s h = permitted (setupOf s) (sound-setup s h) .few
 
-pub room : (s : List ℕ) → sound s ≡ true → byte s 4 ≤ 255
-room s h = permitted (setupOf s) (sound-setup s h) .ticks
+pub room : (s : List ℕ) → sound s ≡ true → (j : ℕ) → j < byte s 2 → limit (setupOf s) j ≤ 255
+room s h j l = permitted (setupOf s) (sound-setup s h) .ticks j l .1

@@ -18,7 +18,7 @@ use Rattle.tools.specs.Tests.{pick}
 use Rattle.tools.specs.Lists.{listed}
 use Rattle.tools.specs.Reasons.{ifDone}
 use Rattle.rules.specs.Model.{show, write, Value, Answer, refusal}
-use Rattle.rules.specs.declared.Setup.{Setup}
+use Rattle.rules.specs.Setups.{Setup}
 use Rattle.rules.specs.Numbers.{BadBook, number}
 use Rattle.rules.specs.Calls.{Call, start, on, Turn, ringOf, call}
 use Rattle.rules.specs.Labels.{beforeOff, compareOff}

@@ -1,6 +1,6 @@
 -- Tables that a sound book can hold: what is asked of the numbers in seats, mail places and slots.
 -- Assumes nothing.
---   InRange X o B q     the pair q is in range and lags at most B behind o
+--   InRange X o B k q   the pair q for desk k is in range and lags at most B behind o
 --   PairFits X o B k q  the pair q for desk k is in range and lags at most B behind o, or zero where there is no desk k
 --   RowFits X o B r     every pair of the row r fits, o the own phase of each desk
 --   MailFits X o p w    the mail w may wait in place p: from one desk to another, its row lagging at most 2M
@@ -12,16 +12,16 @@ use mathlib.Core.Path.{_≡_}
 use mathlib.Core.Bool.{false}
 use Rattle.tools.specs.Tables.{Each}
 use Rattle.ring.specs.Phases.{Pair, lagOf}
-use Rattle.rules.specs.declared.Setup.{Setup}
+use Rattle.rules.specs.Setups.{Setup, limit}
 use Rattle.rules.specs.Model.{places, Row, Held, Tables, phases, zeros, idle}
 
-pub record InRange (X : Setup) (o B : ℕ) (q : Pair) : Type 0 where
+pub record InRange (X : Setup) (o B k : ℕ) (q : Pair) : Type 0 where
   pub phase : q .phase < X .phases
-  pub clock : q .clock < X .clocks
+  pub clock : q .clock < limit X k
   pub lag : lagOf (X .phases) o (q .phase) ≤ B
 
 abbrev pub PairFits : Setup → ℕ → ℕ → ℕ → Pair → Type 0
-PairFits X o B k q = (k < X .desks → InRange X o B q) × (X .desks ≤ k → q ≡ zeros k)
+PairFits X o B k q = (k < X .desks → InRange X o B k q) × (X .desks ≤ k → q ≡ zeros k)
 
 abbrev pub RowFits : Setup → (ℕ → ℕ) → ℕ → Row → Type 0
 RowFits X o B r = (k : ℕ) → PairFits X (o k) B k (r k)

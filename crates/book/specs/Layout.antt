@@ -6,11 +6,13 @@
 --   places           how many mail places, and how many shelf slots
 --   mailFrom         the record of mail place 0
 --   shelfFrom        the record of shelf slot 0
---   tagASpot, tagBSpot   which byte of a record is its first tag, and which its second: a mail place's addressee, filler elsewhere
+--   tagASpot, tagBSpot   which byte of a record is its first tag, and which its second: a seat's limit, a mail place's addressee,
+--                    filler in a slot
 --   rowSpot          the byte of a record where its row begins
 --   phaseSpot j, clockSpot j   which byte of a row is the phase of desk j, and which the clock
 --   bookMark0, bookMark1   the mark of a book
---   spareFrom, spareSize   the byte of the header where its filler begins, and how many bytes it has
+--   blankSpot        the byte of the header between P and M, which is filler
+--   spareFrom, spareSize   the byte of the header where the filler at its end begins, and how many bytes it has
 --   Record           the two tags and the row of a record
 --   Fields           the setup and the records
 --   spot k c         where byte c of record k stands
@@ -20,6 +22,7 @@
 --   recordByte k r c byte c of record k, whose tags and row are r
 --   byteOf f i       byte i of the fields f: in the header, or in its record
 --   layout f         the bytes of the fields f
+--   limitsOf b       the limits that the bytes b tell: of the eight seats' second tags the first D
 --   setupOf b        the setup that the bytes b tell
 --   rowAt b k        the row that the bytes b tell in record k
 --   fields b         the fields of the bytes b
@@ -29,10 +32,10 @@ use Prim.Native.Nat.{ℕ, _+_, _*_, _-_, _/_, _%_, _<_}
 use mathlib.Core.Path.{_≡_}
 use mathlib.Core.List.{List, [], _∷_}
 use lib.Dec.{ltb, eqb}
-use lib.ListN.{length, set}
+use lib.ListN.{length, set, take}
 use Rattle.tools.specs.Tests.{pick}
 use Rattle.tools.specs.Lists.{byte, tab, mid}
-use Rattle.rules.specs.declared.Setup.{Setup}
+use Rattle.rules.specs.Setups.{Setup}
 use Rattle.rules.specs.Model.{Row}
 pub use Rattle.rules.specs.Model.{seats, places, recordSize}
 use Rattle.rules.specs.Replies.{rowByte}
@@ -77,6 +80,9 @@ bookMark0 = 0x42
 abbrev pub bookMark1 : ℕ
 bookMark1 = 0x4B
 
+abbrev pub blankSpot : ℕ
+blankSpot = 4
+
 abbrev pub spareFrom : ℕ
 spareFrom = 9
 
@@ -88,7 +94,7 @@ spot k c = headSize + recordSize * k + c
 
 unfoldable pub headByte : Setup → ℕ → ℕ
 headByte X i =
-    byte (bookMark0 ∷ bookMark1 ∷ X .desks ∷ X .phases ∷ X .clocks ∷ X .seatLag ∷ X .shelfLag ∷ X .back ∷ X .ahead ∷ []) i
+    byte (bookMark0 ∷ bookMark1 ∷ X .desks ∷ X .phases ∷ 0 ∷ X .seatLag ∷ X .shelfLag ∷ X .back ∷ X .ahead ∷ []) i
 
 unfoldable pub mark0 : ℕ → ℕ
 mark0 k = pick (ltb k seats) 0x53 (pick (ltb k shelfFrom) 0x4D 0x53)
@@ -112,12 +118,15 @@ byteOf f i =
 unfoldable pub layout : Fields → List ℕ
 layout f = tab 0 bookSize (byteOf f)
 
+abbrev pub limitsOf : List ℕ → List ℕ
+limitsOf b = take (byte b 2) (tab 0 seats (λ j. byte b (spot j tagBSpot)))
+
 abbrev pub setupOf : List ℕ → Setup
 setupOf b =
     record {
       desks = byte b 2;
       phases = byte b 3;
-      clocks = byte b 4;
+      limits = limitsOf b;
       seatLag = byte b 5;
       shelfLag = byte b 6;
       back = byte b 7;

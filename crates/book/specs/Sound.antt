@@ -5,12 +5,13 @@
 --   rowOk lag f B k        so is every pair of the row of record k
 --   columnZero f k j   the pair for desk j in record k is zero
 --   rowZero f k        the row of record k is all zero
+--   seatLimit f k      the second tag of seat k is a limit in its range, 0 where there is no desk k
 --   seatRest f k       the seat k has not started and its row is zero, or it is a desk's
 --   seatNear lag f k   the pairs of a desk's seat lag at most M
 --   seatOk, mailOk, slotOk   what is asked of record k where it is a seat, a mail place, a slot
 --   recordOk lag f k   what is asked of record k, by its number
 --   spareZero b i      byte i of the header's filler is 0
---   headOk b           the header's mark and its filler
+--   headOk b           the header's mark and its filler, between P and M and at its end
 --   recordSound lag b k   the mark of record k, and what is asked of it
 --   soundBy lag b      the bytes are those of a sound book, by the given lag
 --   sound b            the bytes are those of a sound book: by lagOf
@@ -22,10 +23,8 @@ use lib.ListN.{length}
 use Rattle.tools.specs.Tests.{pick, allOf, allBelow}
 use Rattle.tools.specs.Lists.{byte}
 use Rattle.ring.specs.Phases.{Lag, Pair, lagOf}
-use Rattle.rules.specs.declared.Setup.{Setup}
-use Rattle.rules.specs.Setups.{permits}
-use Rattle.rules.specs.Model.{limit}
-use Rattle.book.specs.Layout.{bookSize, records, seats, shelfFrom, bookMark0, bookMark1, spareFrom, spareSize}
+use Rattle.rules.specs.Setups.{Setup, limit, limitOk, permits}
+use Rattle.book.specs.Layout.{bookSize, records, seats, shelfFrom, bookMark0, bookMark1, blankSpot, spareFrom, spareSize}
 use Rattle.book.specs.Layout.{Fields, fields, setupOf, spot, mark0, mark1}
 
 unfoldable pub pairOk : Lag → Setup → ℕ → ℕ → ℕ → Pair → Bool
@@ -46,6 +45,9 @@ columnZero f k j = allOf (eqb (f .at k .row j .phase) 0 ∷ eqb (f .at k .row j 
 unfoldable pub rowZero : Fields → ℕ → Bool
 rowZero f k = allBelow seats (columnZero f k)
 
+unfoldable pub seatLimit : Fields → ℕ → Bool
+seatLimit f k = pick (ltb k (f .setup .desks)) (limitOk (f .at k .tagB)) (eqb (f .at k .tagB) 0)
+
 -- a seat that has not started has an all-zero row, and one that has is a desk's
 unfoldable pub seatRest : Fields → ℕ → Bool
 seatRest f k = pick (eqb (f .at k .tagA) 0) (rowZero f k) (ltb k (f .setup .desks))
@@ -54,7 +56,7 @@ unfoldable pub seatNear : Lag → Fields → ℕ → Bool
 seatNear lag f k = pick (ltb k (f .setup .desks)) (rowOk lag f (f .setup .seatLag) k) true
 
 unfoldable pub seatOk : Lag → Fields → ℕ → Bool
-seatOk lag f k = allOf (leb (f .at k .tagA) 1 ∷ eqb (f .at k .tagB) 0 ∷ seatRest f k ∷ seatNear lag f k ∷ [])
+seatOk lag f k = allOf (leb (f .at k .tagA) 1 ∷ seatLimit f k ∷ seatRest f k ∷ seatNear lag f k ∷ [])
 
 unfoldable pub mailOk : Lag → Fields → ℕ → Bool
 mailOk lag f k =
@@ -79,7 +81,13 @@ unfoldable pub spareZero : List ℕ → ℕ → Bool
 spareZero b i = eqb (byte b (spareFrom + i)) 0
 
 unfoldable pub headOk : List ℕ → Bool
-headOk b = allOf (eqb (byte b 0) bookMark0 ∷ eqb (byte b 1) bookMark1 ∷ allBelow spareSize (spareZero b) ∷ [])
+headOk b =
+    allOf
+    (eqb (byte b 0) bookMark0
+    ∷ eqb (byte b 1) bookMark1
+    ∷ eqb (byte b blankSpot) 0
+    ∷ allBelow spareSize (spareZero b)
+    ∷ [])
 
 unfoldable pub recordSound : Lag → List ℕ → ℕ → Bool
 recordSound lag b k =

@@ -17,8 +17,8 @@ use lib.ListN.{length, drop}
 use Rattle.tools.specs.Tests.{pick, allOf, allBelow}
 use Rattle.tools.specs.Lists.{byte, tab}
 use Rattle.ring.specs.Phases.{Pair}
-use Rattle.rules.specs.declared.Setup.{Setup}
-use Rattle.rules.specs.Model.{limit, Label}
+use Rattle.rules.specs.Setups.{Setup, limit}
+use Rattle.rules.specs.Model.{Label}
 use Rattle.rules.specs.Replies.{rowOf}
 use Rattle.book.specs.Layout.{recordSize, seats, tagASpot, tagBSpot, rowSpot, markedByte}
 

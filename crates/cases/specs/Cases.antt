@@ -1,10 +1,11 @@
 -- The starred cases that need no bytes, the listing of the rules, a run for each error that the desks would make, runs that ask of
--- resets, runs whose mails tell more or less, runs that ask for pictures, and one for each refusal that these leave out. Refusals are
--- by their literal numbers.
+-- resets, runs whose mails tell more or less, runs that ask for pictures, runs of desks with different limits, and one for each
+-- refusal that these leave out. Refusals are by their literal numbers.
 -- Assumes nothing.
---   setupWith P A     the setup of the cases with a ring of P, and kept stamps that may lag A; X, that with 5 and 4
+--   caseSetup P A     the setup of the cases with a ring of P, and kept stamps that may lag A; X, that with 5 and 4
 --   uneven            X with m of 1 and n of 3
 --   narrow, small     two desks that may lag one phase, as in the listing; the same with clocks and a reach to spare
+--   limitedTo l k     X with two desks, of the limits l and k
 --   pair v t          the pair v.t
 --   Made, Shown       a stamp, and a value, as the listing shows it
 --   event p j ps      a stamp, with the place p where it has one
@@ -27,6 +28,8 @@
 --   letters           runs whose mails tell of no desk, of one and of two
 --   three s t u       the call picture, of the slots s, t and u for desks 0, 1 and 2
 --   pictures          runs that ask for pictures: closed ones, each two desks at odds, and what refuses them
+--   lastSent          desk 0 sends desk 1 its last clock, under the limits 4 and 2
+--   limits            runs of two desks with different limits, by their numbers
 --   upTo n            the numbers below n
 --   filling           32 kept events of desk 0, which fill the shelf; filled, their lines
 --   room              runs on places and slots: full ones, freed ones, and a stamp written or kept too long
@@ -45,7 +48,7 @@ use Prim.Native.Nat.{ℕ, zero, suc, _+_}
 use lib.ListN.{replicate}
 use Rattle.tools.specs.Lists.{tab}
 use Rattle.ring.specs.Phases.{Pair, Gap, ring, Taken, later}
-use Rattle.rules.specs.declared.Setup.{Setup}
+use Rattle.rules.specs.Setups.{Setup}
 use Rattle.rules.specs.declared.Relation.{Relation}
 use Rattle.rules.specs.declared.Relation.the-variants.{Before, After, Same, Concurrent}
 use Rattle.rules.specs.Model.{Row, Label, before, compare, picture, write, local, reset, send, receive, drop, discard, Odds, Value}
@@ -53,17 +56,17 @@ use Rattle.rules.specs.Calls.{Book, Call, start, on, Turn, ringOf}
 use Rattle.rules.specs.Labels.{gapOff, beforeOff}
 use Rattle.history.specs.Runs.{run}
 
-abbrev pub setupWith : ℕ → ℕ → Setup
-setupWith P A = record { desks = 3; phases = P; clocks = 4; seatLag = 2; shelfLag = A; back = 2; ahead = 2 }
+abbrev pub caseSetup : ℕ → ℕ → Setup
+caseSetup P A = record { desks = 3; phases = P; limits = 4 ∷ 4 ∷ 4 ∷ []; seatLag = 2; shelfLag = A; back = 2; ahead = 2 }
 
 abbrev pub X : Setup
-X = setupWith 5 4
+X = caseSetup 5 4
 
 abbrev pub uneven : Setup
-uneven = record { desks = 3; phases = 5; clocks = 4; seatLag = 2; shelfLag = 4; back = 1; ahead = 3 }
+uneven = record { desks = 3; phases = 5; limits = 4 ∷ 4 ∷ 4 ∷ []; seatLag = 2; shelfLag = 4; back = 1; ahead = 3 }
 
 abbrev pub narrow : Setup
-narrow = record { desks = 2; phases = 3; clocks = 3; seatLag = 1; shelfLag = 1; back = 1; ahead = 1 }
+narrow = record { desks = 2; phases = 3; limits = 3 ∷ 3 ∷ []; seatLag = 1; shelfLag = 1; back = 1; ahead = 1 }
 
 abbrev pub pair : ℕ → ℕ → Pair
 pair v t = record { phase = v; clock = t }
@@ -174,7 +177,7 @@ abbrev pub starred : List Case
 starred =
     -- 1 and 2: BadSetup
     record {
-      calls = start X ∷ start (setupWith 4 4) ∷ start (setupWith 5 1) ∷ [];
+      calls = start X ∷ start (caseSetup 4 4) ∷ start (caseSetup 5 1) ∷ [];
       lines = told plain ∷ refused 2 ∷ refused 2 ∷ [];
     }
     -- 3
@@ -225,7 +228,7 @@ listing =
     ∷ [])
 
 abbrev pub small : Setup
-small = record { desks = 2; phases = 3; clocks = 99; seatLag = 1; shelfLag = 1; back = 1; ahead = 2 }
+small = record { desks = 2; phases = 3; limits = 99 ∷ 99 ∷ []; seatLag = 1; shelfLag = 1; back = 1; ahead = 2 }
 
 abbrev pub told-by : ℕ → List Call
 told-by p = on (reset 0 false) ∷ on (send 0 1 false) ∷ on (receive 1 p false) ∷ []
@@ -400,6 +403,34 @@ pictures =
     ∷ [])
     ∷ []
 
+abbrev pub limitedTo : ℕ → ℕ → Setup
+limitedTo l k = record { desks = 2; phases = 5; limits = l ∷ k ∷ []; seatLag = 2; shelfLag = 4; back = 2; ahead = 2 }
+
+abbrev pub lastSent : List Call
+lastSent = on (local 0 false) ∷ on (local 0 false) ∷ on (send 0 1 false) ∷ []
+
+abbrev pub limits : List Case
+limits =
+    -- 14: each desk is PhaseFull by its own limit
+    opened (limitedTo 4 2) (replicate 4 (on (local 0 false)) ++ replicate 2 (on (local 1 false)))
+    (told (made 0 (pair 0 1 ∷ pair 0 0 ∷ []))
+    ∷ told (made 0 (pair 0 2 ∷ pair 0 0 ∷ []))
+    ∷ told (made 0 (pair 0 3 ∷ pair 0 0 ∷ []))
+    ∷ refused 8
+    ∷ told (made 1 (pair 0 0 ∷ pair 0 1 ∷ []))
+    ∷ refused 8
+    ∷ [])
+    -- 15: desk 1 takes in a clock of desk 0 that it could not have itself
+    ∷ opened (limitedTo 4 2) (lastSent ++ on (receive 1 0 false) ∷ on (local 1 false) ∷ on (local 0 false) ∷ [])
+    (told (made 0 (pair 0 1 ∷ pair 0 0 ∷ []))
+    ∷ told (made 0 (pair 0 2 ∷ pair 0 0 ∷ []))
+    ∷ told (posted 0 0 (pair 0 3 ∷ pair 0 0 ∷ []))
+    ∷ told (learning 1 (made 1 (pair 0 3 ∷ pair 0 1 ∷ [])))
+    ∷ refused 8
+    ∷ refused 8
+    ∷ [])
+    ∷ []
+
 abbrev pub upTo : ℕ → List ℕ
 upTo n = tab 0 n (λ i. i)
 
@@ -504,7 +535,7 @@ room =
     ∷ []
 
 abbrev pub all : List Case
-all = starred ++ listing ∷ errors ++ resets ++ letters ++ pictures ++ room
+all = starred ++ listing ∷ errors ++ resets ++ letters ++ pictures ++ limits ++ room
 
 abbrev pub took : ℕ → Bool → Taken
 took v t = record { pair = pair v 0; changed = t }

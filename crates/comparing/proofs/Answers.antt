@@ -7,9 +7,8 @@ use Prim.Native.Nat.{ℕ, zero, suc}
 use Rattle.tools.specs.Tests.{pick}
 use Rattle.tools.proofs.Tests.{or-false-l, or-false-r}
 use Rattle.ring.specs.Phases.{Phases, Gap}
-use Rattle.rules.specs.declared.Setup.{Setup}
 use Rattle.rules.specs.declared.Relation.{Relation}
-use Rattle.rules.specs.Setups.{permits}
+use Rattle.rules.specs.Setups.{Setup, permits}
 use Rattle.rules.specs.Numbers.{OutOfReach, number}
 use Rattle.rules.specs.Model.{
   Row,

@@ -7,7 +7,7 @@ use Prim.Native.Nat.{ℕ, _+_}
 use lib.Dec.{ltb, eqb}
 use Rattle.tools.specs.Tests.{pick}
 use Rattle.ring.specs.Phases.{Gap, laterBy}
-use Rattle.rules.specs.declared.Setup.{Setup}
+use Rattle.rules.specs.Setups.{Setup}
 use Rattle.rules.specs.declared.Relation.{Relation}
 use Rattle.rules.specs.declared.Relation.the-variants.{Before, After, Same, Concurrent, Crossed}
 use Rattle.rules.specs.Model.{Row, reachBack, near, isOut, gapIn, sameBy, isBefore, relation}

@@ -1,8 +1,10 @@
-// The comparison of two stamps over plain numbers, the same on the book and off it.
+// The comparison of two stamps over plain numbers, the same on the book and off it, and whatever the limits of the setup.
 ghost use mathlib.Core.Path.{_≡_};
+ghost use mathlib.Core.List.{List};
 ghost use mathlib.Core.Option.{Option};
-ghost use Prim.Native.Nat.{_≤_};
+ghost use Prim.Native.Nat.{ℕ, _≤_};
 ghost use Rattle.ring.specs.Phases.{Gap};
+ghost use Rattle.rules.specs.Setups.{setupWith};
 ghost use Rattle.rules.specs.Model.{Row, reachBack, near, isOut, sameBy, isBefore};
 ghost use Rattle.rules.specs.Model;
 ghost use Rattle.rules.specs.Replies.{toldSays, comparedSays};
@@ -10,7 +12,7 @@ ghost use Rattle.comparing.specs.Ways.{gapOf, Clocked, WayOf};
 ghost use Rattle.comparing.specs.Answers.{beforeBy, compareBy};
 use rules::Compared;
 use rules::Relation;
-use rules::Setup;
+use rules::SetupNumbers;
 use rules::Told;
 
 // One way of a comparison, from the stamp of an owner to the other stamp: the difference d at the owner's desk, up minus
@@ -23,9 +25,9 @@ pub struct Way {
 }
 
 // A difference within reach is above minus this: m, and m+1 from a reset.
-pub fn reach_back(setup: Setup, reset: bool) -> usize
+pub fn reach_back(setup: SetupNumbers, reset: bool) -> usize
     requires { ⌜ setup .back ≤ 255 ⌝ }
-    ensures { λ r. ⌜ r ≡ reachBack setup reset ⌝ }
+    ensures { λ r. ⌜ ((l : List ℕ) → r ≡ reachBack (setupWith setup l) reset) ⌝ }
 {
     if reset {
         return setup.back + 1;
@@ -34,9 +36,9 @@ pub fn reach_back(setup: Setup, reset: bool) -> usize
 }
 
 // Whether a question is out of reach: d does not lie from -(m-1) to n-1, or from -m where the owner's stamp is a reset's, whose clock is 0.
-fn out_of_reach(setup: Setup, way: Way) -> bool
+fn out_of_reach(setup: SetupNumbers, way: Way) -> bool
     requires { ⌜ (setup .back ≤ 255) × (setup .ahead ≤ 255) ⌝ }
-    ensures { λ r. ⌜ r ≡ isOut (near setup (way .from) (gapOf way)) ⌝ }
+    ensures { λ r. ⌜ ((l : List ℕ) → r ≡ isOut (near (setupWith setup l) (way .from) (gapOf way))) ⌝ }
 {
     let up = tools::wide(way.up);
     let down = tools::wide(way.down);
@@ -81,9 +83,10 @@ fn relation(owner: u8, other: u8, there: Way, back: Way) -> Relation
 }
 
 // What before answers where both stamps are there: it needs the way there within reach.
-pub fn told(setup: Setup, owner: u8, other: u8, there: Way) -> Told
+pub fn told(setup: SetupNumbers, owner: u8, other: u8, there: Way) -> Told
     requires { ⌜ (setup .back ≤ 255) × (setup .ahead ≤ 255) ⌝ }
-    ensures { λ r. ⌜ ((g : Option Gap) (e f : Row) → WayOf setup g owner e f there → toldSays r ≡ beforeBy g owner other e f) ⌝ }
+    ensures { λ r. ⌜ ((l : List ℕ) (g : Option Gap) (e f : Row) → WayOf (setupWith setup l) g owner e f there
+        → toldSays r ≡ beforeBy g owner other e f) ⌝ }
 {
     if out_of_reach(setup, there) {
         return Told::Refused(rules::OUT_OF_REACH);
@@ -95,9 +98,10 @@ pub fn told(setup: Setup, owner: u8, other: u8, there: Way) -> Told
 }
 
 // What compare answers where both stamps are there: it needs both ways within reach.
-pub fn compared(setup: Setup, owner: u8, other: u8, there: Way, back: Way) -> Compared
+pub fn compared(setup: SetupNumbers, owner: u8, other: u8, there: Way, back: Way) -> Compared
     requires { ⌜ (setup .back ≤ 255) × (setup .ahead ≤ 255) ⌝ }
-    ensures { λ r. ⌜ ((g h : Option Gap) (e f : Row) → WayOf setup g owner e f there → WayOf setup h other f e back
+    ensures { λ r. ⌜ ((l : List ℕ) (g h : Option Gap) (e f : Row) → WayOf (setupWith setup l) g owner e f there
+        → WayOf (setupWith setup l) h other f e back
         → comparedSays r ≡ compareBy g h owner other e f) ⌝ }
 {
     if out_of_reach(setup, there) | out_of_reach(setup, back) {

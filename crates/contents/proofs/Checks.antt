@@ -1,7 +1,7 @@
 -- Laws of the parts of the sound check.
 -- Assumes nothing.
 use Prim.Native.Nat.{ℕ, _+_, _-_, _≤_, _<_}
-use mathlib.Core.Path.{_≡_, refl, ap, _∙_}
+use mathlib.Core.Path.{_≡_, refl, sym, ap, _∙_}
 use mathlib.Core.Bool.{Bool, true, false, _&&_}
 use mathlib.Core.List.{List, [], _∷_}
 use native.Mathlib.Omega.{arith}
@@ -14,14 +14,12 @@ use Rattle.ring.specs.Phases.{lagOf}
 use Rattle.ring.proofs.Ring.{lag-below, lag-down, lag-round}
 use Rattle.tools.specs.Tests.{pick, allOf}
 use Rattle.tools.specs.Lists.{byte}
-use Rattle.tools.proofs.Tests.{alike}
+use Rattle.tools.proofs.Tests.{and-true, below-one, alike}
+use Rattle.rules.specs.Setups.{limit}
 use Rattle.book.specs.Layout.{tagASpot, tagBSpot, shelfFrom, rowSpot, phaseSpot, clockSpot, fields, setupOf, spot}
 use Rattle.book.specs.Sound.{pairOk, columnOk, rowZero, mailOk, slotOk, recordOk}
+use Rattle.book.proofs.Limits.{limit-told}
 use Rattle.contents.specs.Checks.{phasesFrom, ownFrom, clocksFrom, phasesIn, ownIn, clocksIn, Limits, Ready}
-
-and-true : (a : Bool) → (a && true) ≡ a
-and-true true = refl
-and-true false = refl
 
 le-by : (a b c d : ℕ) → (a ≤ b → c ≤ d) → (b < a → d < c) → leb a b ≡ leb c d
 le-by a b c d f g =
@@ -38,11 +36,6 @@ lag-sum p own v B = go (leb v own) refl
     go false e =
         let h : own < v = leb-false v own e in
         rw (lag-round p own v h) (le-by (own + p) (v + B) (own + p - v) B (λ s. omega arith) (λ s. omega arith))
-
-below-one : (v : ℕ) → ltb v 1 ≡ eqb v 0
-below-one v =
-    alike (ltb v 1) (eqb v 0) (λ e. eq-eqb v 0 (omega (arith, ltb-true v 1 e)))
-    (λ e. ne-eqb v 0 (λ q. absurd (omega (arith, ltb-false v 1 e))))
 
 -- the limits that are filled from the front
 pub limits-none : (b l : List ℕ) → length l ≡ 24 → Limits b 0 l
@@ -63,7 +56,7 @@ module _ (b l : List ℕ) (c x y z : ℕ) (h : Limits b c l) (q : c < 8) where
 
   pub limits-more : x ≡ pick (ltb c (setupOf b .desks)) (setupOf b .phases) 1
       → y ≡ pick (ltb c (setupOf b .desks)) (fields b .at c .row c .phase) 0
-      → z ≡ pick (ltb c (setupOf b .desks)) (setupOf b .clocks) 1
+      → z ≡ pick (ltb c (setupOf b .desks)) (fields b .at c .tagB) 1
       → Limits b (c + 1) (set two (clocksFrom + c) z)
   limits-more e f g =
       record {
@@ -83,17 +76,17 @@ module _ (b l : List ℕ) (c x y z : ℕ) (h : Limits b c l) (q : c < 8) where
       }
 
 -- a pair against what its desk is held to, as the definition has it
-column-at : (b : List ℕ) (B k j : ℕ)
+column-at : (b : List ℕ) (B k j : ℕ) → j < 8
     → allOf
     (ltb (byte b (spot k (rowSpot + phaseSpot j))) (pick (ltb j (setupOf b .desks)) (setupOf b .phases) 1)
-    ∷ ltb (byte b (spot k (rowSpot + clockSpot j))) (pick (ltb j (setupOf b .desks)) (setupOf b .clocks) 1)
+    ∷ ltb (byte b (spot k (rowSpot + clockSpot j))) (pick (ltb j (setupOf b .desks)) (byte b (spot j tagBSpot)) 1)
     ∷ leb (lagOf (pick (ltb j (setupOf b .desks)) (setupOf b .phases) 1)
     (pick (ltb j (setupOf b .desks)) (byte b (spot j (rowSpot + phaseSpot j))) 0)
     (byte b (spot k (rowSpot + phaseSpot j)))) B
     ∷ [])
     ≡ columnOk lagOf (fields b) B k j
 unfolding columnOk pairOk allOf
-column-at b B k j = go (ltb j (byte b 2))
+column-at b B k j q = go (ltb j (byte b 2)) refl
   where
     v : ℕ
     v = byte b (spot k (rowSpot + phaseSpot j))
@@ -104,11 +97,15 @@ column-at b B k j = go (ltb j (byte b 2))
     own : ℕ
     own = byte b (spot j (rowSpot + phaseSpot j))
 
-    go : (u : Bool)
-        → (ltb v (pick u (byte b 3) 1) && (ltb t (pick u (byte b 4) 1) && leb (lagOf (pick u (byte b 3) 1) (pick u own 0) v) B))
-        ≡ pick u (ltb v (byte b 3) && (ltb t (byte b 4) && leb (lagOf (byte b 3) own v) B)) (eqb v 0 && eqb t 0)
-    go true = refl
-    go false =
+    last : ℕ
+    last = byte b (spot j tagBSpot)
+
+    go : (u : Bool) → ltb j (byte b 2) ≡ u
+        → (ltb v (pick u (byte b 3) 1) && (ltb t (pick u last 1) && leb (lagOf (pick u (byte b 3) 1) (pick u own 0) v) B))
+        ≡ pick u (ltb v (byte b 3) && (ltb t (limit (setupOf b) j) && leb (lagOf (byte b 3) own v) B)) (eqb v 0 && eqb t 0)
+    go true e =
+        ap (λ n. ltb v (byte b 3) && (ltb t n && leb (lagOf (byte b 3) own v) B)) (sym (limit-told b j q (ltb-true j (byte b 2) e)))
+    go false e =
         let z : lagOf 1 0 v ≡ 0 = omega (arith, lag-below 1 0 v (omega arith)) in
         let y : leb (lagOf 1 0 v) B ≡ true = le-leb (lagOf 1 0 v) B (omega arith) in
         rw (y, below-one v, below-one t) (ap (λ s. eqb v 0 && s) (and-true (eqb t 0)))
@@ -118,7 +115,7 @@ pub column-is : (b l : List ℕ) (B k j v t : ℕ) (r : Bool) → Ready b l → 
     → r ≡ allOf (ltb v (phasesIn l j) ∷ ltb t (clocksIn l j) ∷ leb (lagOf (phasesIn l j) (ownIn l j) v) B ∷ [])
     → r ≡ columnOk lagOf (fields b) B k j
 column-is b l B k j v t r h q x y z =
-    rw (x, y, h .limits .phases j q, h .limits .clocks j q, h .limits .own j q) at z ∙ column-at b B k j
+    rw (x, y, h .limits .phases j q, h .limits .clocks j q, h .limits .own j q) at z ∙ column-at b B k j q
 
 -- a free place and a free slot are asked the same
 pub free-is : (b : List ℕ) (k : ℕ) → 8 ≤ k → byte b (spot k tagASpot) ≡ 0

@@ -1,6 +1,6 @@
 -- What the parts of the sound check tell of the bytes of a book.
 -- Assumes nothing.
---   phasesIn l j, ownIn l j, clocksIn l j   what the limits l have for desk j: how many phases, its own phase, how many clock values
+--   phasesIn l j, ownIn l j, clocksIn l j   what the limits l have for desk j: how many phases, its own phase, its limit
 --   phasesFrom, ownFrom, clocksFrom   where the three parts of the limits begin, each with a byte for every desk
 --   Limits b c l   l has what the pairs of each desk below c are held to; where there is no desk, 0 alone is in range and does not lag
 --   Ready b l      b has a book's length, and l is what the pairs of its desks are held to
@@ -36,7 +36,7 @@ pub record Limits (b : List ℕ) (c : ℕ) (l : List ℕ) : Type 0 where
   pub size : length l ≡ 24
   pub phases : (j : ℕ) → j < c → phasesIn l j ≡ pick (ltb j (setupOf b .desks)) (setupOf b .phases) 1
   pub own : (j : ℕ) → j < c → ownIn l j ≡ pick (ltb j (setupOf b .desks)) (fields b .at j .row j .phase) 0
-  pub clocks : (j : ℕ) → j < c → clocksIn l j ≡ pick (ltb j (setupOf b .desks)) (setupOf b .clocks) 1
+  pub clocks : (j : ℕ) → j < c → clocksIn l j ≡ pick (ltb j (setupOf b .desks)) (fields b .at j .tagB) 1
 
 pub record Ready (b : List ℕ) (l : List ℕ) : Type 0 where
   pub size : length b ≡ bookSize

@@ -7,7 +7,7 @@ ghost use lib.ListN.{length};
 ghost use Rattle.ring.specs.Phases.{lagOf};
 ghost use Rattle.tools.specs.Tests.{pick, allOf};
 ghost use Rattle.book.specs.Layout.{bookSize, records, shelfFrom, mailFrom, seats, fields};
-ghost use Rattle.book.specs.Sound.{columnZero, rowOk, rowZero, seatRest, seatNear, recordOk};
+ghost use Rattle.book.specs.Sound.{columnZero, rowOk, rowZero, seatLimit, seatRest, seatNear, recordOk};
 ghost use Rattle.contents.specs.Checks.{Limits, Ready, Used};
 
 // What the pairs of the desks are held to stands in one array, desk by desk in each of its three parts: first how many phases
@@ -17,7 +17,7 @@ const PHASES: usize = 0;
 // Then each desk's own phase.
 const OWN: usize = parts::SEATS;
 
-// Then how many clock values each has.
+// Then each desk's limit.
 const CLOCKS: usize = 2 * parts::SEATS;
 
 // A number of a desk; where there is no such desk, the one that stands for it.
@@ -41,7 +41,7 @@ pub fn limits_of(book: &[u8]) -> [u8; 24]
     while j < parts::SEATS {
         limits[PHASES + j] = of_desk(d, j, book[parts::PHASES_AT], 1);
         limits[OWN + j] = of_desk(d, j, parts::phase_at(book, j, j), 0);
-        limits[CLOCKS + j] = of_desk(d, j, book[parts::CLOCKS_AT], 1);
+        limits[CLOCKS + j] = of_desk(d, j, parts::tag_b(book, j), 1);
         j += 1;
     }
     limits
@@ -137,14 +137,27 @@ fn seat_near(book: &[u8], limits: &[u8; 24], k: usize) -> bool
     }
 }
 
+// A limit in its range; none where there is no desk.
+fn seat_limit(book: &[u8], k: usize) -> bool
+    requires { ⌜ length (now book) ≡ bookSize ⌝ }
+    requires { ⌜ k < records ⌝ }
+    ensures { λ r. ⌜ r ≡ seatLimit (fields (now (book .entry))) k ⌝ }
+{
+    let limit = parts::tag_b(book, k);
+    if k < parts::desks_of(book) {
+        setups::limit_ok(tools::wide(limit))
+    } else {
+        limit == parts::FILLER
+    }
+}
+
 pub fn seat_ok(book: &[u8], limits: &[u8; 24], k: usize) -> bool
     requires { ⌜ Ready (now book) (now limits) ⌝ }
     requires { ⌜ k < seats ⌝ }
     ensures { λ r. ⌜ r ≡ recordOk lagOf (fields (now (book .entry))) k ⌝ }
 {
     (parts::tag_a(book, k) <= parts::STARTED)
-        & ((parts::tag_b(book, k) == parts::FILLER)
-            & (seat_rest(book, k) & seat_near(book, limits, k)))
+        & (seat_limit(book, k) & (seat_rest(book, k) & seat_near(book, limits, k)))
 }
 
 // A place or slot that is free. Its second tag is tested apart, so that its row is one compare of sixteen bytes.

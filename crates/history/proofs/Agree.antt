@@ -9,10 +9,9 @@ use mathlib.Core.Logic.{_↔_}
 use Prim.Native.Nat.{ℕ}
 use native.Mathlib.Omega.{arith}
 use Rattle.tools.proofs.Tests.{alike}
-use Rattle.rules.specs.declared.Setup.{Setup}
 use Rattle.rules.specs.declared.Relation.{Relation}
 use Rattle.rules.specs.declared.Relation.the-variants.{Before, After, Same, Concurrent, Crossed}
-use Rattle.rules.specs.Setups.{permits}
+use Rattle.rules.specs.Setups.{Setup, permits}
 use Rattle.rules.specs.Model.{Held, before, compare, used, Answer, says, relates}
 use Rattle.rules.specs.Calls.{Book, Call, on, freshBook, ringOf, call}
 use Rattle.rules.specs.Labels.{beforeOff, compareOff}

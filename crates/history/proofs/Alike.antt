@@ -5,8 +5,7 @@ use mathlib.Core.Path.{_≡_, refl, ap, sym, _∙_}
 use mathlib.Core.Bool.{Bool, true, false}
 use mathlib.Core.List.{List, [], _∷_}
 use Rattle.ring.specs.Phases.{line}
-use Rattle.rules.specs.declared.Setup.{Setup}
-use Rattle.rules.specs.Setups.{permits}
+use Rattle.rules.specs.Setups.{Setup, permits}
 use Rattle.rules.specs.Model.{Act, nothing, accepted, step}
 use Rattle.rules.specs.Calls.{Book, Call, start, on, Turn, freshBook, turnOf, ringOf, lineOf, call}
 use Rattle.history.specs.History.{State, begin, next, after}

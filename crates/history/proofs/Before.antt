@@ -12,7 +12,7 @@ use borrow.Author.Tests.{eqb-true, eq-eqb, ne-eqb, ltb-true, ltb-false, lt-ltb}
 use Rattle.ring.specs.Phases.{line, Gap}
 use Rattle.rules.proofs.Setups.{Permitted}
 use Rattle.rules.proofs.Reach.{near-in, in-near}
-use Rattle.rules.specs.declared.Setup.{Setup}
+use Rattle.rules.specs.Setups.{Setup}
 use Rattle.tools.specs.Tests.{pick}
 use Rattle.rules.specs.declared.Relation.the-variants.{Before, After, Same, Concurrent, Crossed}
 use Rattle.rules.specs.Model.{Held, Tables, before, compare, says, relates, step, done, reachBack, near, isOut, gapIn, gap, sameBy, isBefore}
@@ -36,58 +36,58 @@ asked h d x y = isBefore d (h .desk x) (h .desk y) (h .row x) (h .row y)
 
 module _ (X : Setup) (h : Log) (c : Causal X h) (x y : ℕ) (lx : x < h .count) (ly : y < h .count) where
   -- one desk: yes when strictly later
-  one-desk : h .desk x ≡ h .desk y → ((ltb (seen X h x x) (seen X h x y) || false) ≡ true) ↔ Leads h x y
-  one-desk q = (λ t. to (c .complete x y lx ly (let z = lt t in omega arith)) (lt t), λ l. from l (ltb (seen X h x x) (seen X h x y)) refl)
+  one-desk : h .desk x ≡ h .desk y → ((ltb (seen h x x) (seen h x y) || false) ≡ true) ↔ Leads h x y
+  one-desk q = (λ t. to (c .complete x y lx ly (let z = lt t in omega arith)) (lt t), λ l. from l (ltb (seen h x x) (seen h x y)) refl)
     where
-      lt : (ltb (seen X h x x) (seen X h x y) || false) ≡ true → seen X h x x < seen X h x y
+      lt : (ltb (seen h x x) (seen h x y) || false) ≡ true → seen h x x < seen h x y
       lt t = ltb-true _ _ (rw mathlib.Core.Bool.or-false at t)
 
-      to : Upto h x y → seen X h x x < seen X h x y → Leads h x y
+      to : Upto h x y → seen h x x < seen h x y → Leads h x y
       to (inr l) k = l
-      to (inl z) k = absurd (let v : seen X h x x ≡ seen X h x y = ap (λ n. key X (h .row n (h .desk x))) z in omega arith)
+      to (inl z) k = absurd (let v : seen h x x ≡ seen h x y = ap (λ n. key (h .row n (h .desk x))) z in omega arith)
 
       back : Leads h x y → Upto h y x → ⊥
       back l (inl z) = let v = leads-lt h (c .caused) l in omega arith
       back l (inr m) = let v = leads-lt h (c .caused) l in let w = leads-lt h (c .caused) m in omega arith
 
-      from : Leads h x y → (t : Bool) → ltb (seen X h x x) (seen X h x y) ≡ t → (t || false) ≡ true
+      from : Leads h x y → (t : Bool) → ltb (seen h x x) (seen h x y) ≡ t → (t || false) ≡ true
       from l true e = refl
       from l false e =
           absurd (back l (c .complete y x ly lx
-          (subst (λ d. key X (h .row y d) ≤ key X (h .row x d)) q (ltb-false (seen X h x x) (seen X h x y) e))))
+          (subst (λ d. key (h .row y d) ≤ key (h .row x d)) q (ltb-false (seen h x x) (seen h x y) e))))
 
   two-desks : (h .desk x ≡ h .desk y → ⊥)
-      → ((ltb (seen X h x x) (seen X h x y) || eqb (seen X h x x) (seen X h x y)) ≡ true) ↔ Leads h x y
+      → ((ltb (seen h x x) (seen h x y) || eqb (seen h x x) (seen h x y)) ≡ true) ↔ Leads h x y
   two-desks ne = (
-    λ t. to (c .complete x y lx ly (le (ltb (seen X h x x) (seen X h x y)) refl t)),
-    λ l. from (c .sound x y lx ly (inr l)) (ltb (seen X h x x) (seen X h x y)) refl,
+    λ t. to (c .complete x y lx ly (le (ltb (seen h x x) (seen h x y)) refl t)),
+    λ l. from (c .sound x y lx ly (inr l)) (ltb (seen h x x) (seen h x y)) refl,
   )
     where
-      le : (u : Bool) → ltb (seen X h x x) (seen X h x y) ≡ u → (u || eqb (seen X h x x) (seen X h x y)) ≡ true
-          → seen X h x x ≤ seen X h x y
-      le true e t = let z = ltb-true (seen X h x x) (seen X h x y) e in omega arith
-      le false e t = let z = eqb-true (seen X h x x) (seen X h x y) t in omega arith
+      le : (u : Bool) → ltb (seen h x x) (seen h x y) ≡ u → (u || eqb (seen h x x) (seen h x y)) ≡ true
+          → seen h x x ≤ seen h x y
+      le true e t = let z = ltb-true (seen h x x) (seen h x y) e in omega arith
+      le false e t = let z = eqb-true (seen h x x) (seen h x y) t in omega arith
 
       to : Upto h x y → Leads h x y
       to (inr l) = l
       to (inl z) = absurd (ne (ap (h .desk) z))
 
-      from : seen X h x x ≤ seen X h x y → (u : Bool) → ltb (seen X h x x) (seen X h x y) ≡ u
-          → (u || eqb (seen X h x x) (seen X h x y)) ≡ true
+      from : seen h x x ≤ seen h x y → (u : Bool) → ltb (seen h x x) (seen h x y) ≡ u
+          → (u || eqb (seen h x x) (seen h x y)) ≡ true
       from k true e = refl
-      from k false e = let z = ltb-false (seen X h x x) (seen X h x y) e in eq-eqb (seen X h x x) (seen X h x y) (omega arith)
+      from k false e = let z = ltb-false (seen h x x) (seen h x y) e in eq-eqb (seen h x x) (seen h x y) (omega arith)
 
   -- THE HEART: with the true gap, before says yes exactly when a chain leads from x to y
   pub tells : (d : Gap) → True h d x y → (asked h d x y ≡ true) ↔ Leads h x y
   tells d t =
       rw (
-        gap-key X d (h .row x (h .desk x)) (h .row y (h .desk x)) t (c .clocks x lx (h .desk x)) (c .clocks y ly (h .desk x)),
-        same-key X d (h .row x (h .desk x)) (h .row y (h .desk x)) t (c .clocks x lx (h .desk x)) (c .clocks y ly (h .desk x)),
+        gap-key d (h .row x (h .desk x)) (h .row y (h .desk x)) t (c .clocks x lx (h .desk x) .0) (c .clocks y ly (h .desk x) .0),
+        same-key d (h .row x (h .desk x)) (h .row y (h .desk x)) t (c .clocks x lx (h .desk x) .0) (c .clocks y ly (h .desk x) .0),
       )
       (go (ℕ-discrete (h .desk x) (h .desk y)))
     where
       go : Dec (h .desk x ≡ h .desk y)
-          → ((ltb (seen X h x x) (seen X h x y) || (not (eqb (h .desk x) (h .desk y)) && eqb (seen X h x x) (seen X h x y))) ≡ true)
+          → ((ltb (seen h x x) (seen h x y) || (not (eqb (h .desk x) (h .desk y)) && eqb (seen h x x) (seen h x y))) ≡ true)
           ↔ Leads h x y
       go (yes q) = rw (eq-eqb (h .desk x) (h .desk y) q) (one-desk q)
       go (no q) = rw (ne-eqb (h .desk x) (h .desk y) q) (two-desks q)
@@ -95,11 +95,11 @@ module _ (X : Setup) (h : Log) (c : Causal X h) (x y : ℕ) (lx : x < h .count) 
   pub same-is : (d : Gap) → True h d x y
       → ((eqb (h .desk x) (h .desk y) && sameBy d (h .row x (h .desk x) .clock) (h .row y (h .desk x) .clock)) ≡ true) ↔ (x ≡ y)
   same-is d t =
-      rw (same-key X d (h .row x (h .desk x)) (h .row y (h .desk x)) t (c .clocks x lx (h .desk x)) (c .clocks y ly (h .desk x))) (
+      rw (same-key d (h .row x (h .desk x)) (h .row y (h .desk x)) t (c .clocks x lx (h .desk x) .0) (c .clocks y ly (h .desk x) .0)) (
         (λ e. to (eqb-true _ _ (and-true-l _ _ e))
-            (eqb-true _ _ (and-true-r (eqb (h .desk x) (h .desk y)) (eqb (seen X h x x) (seen X h x y)) e))),
+            (eqb-true _ _ (and-true-r (eqb (h .desk x) (h .desk y)) (eqb (seen h x x) (seen h x y)) e))),
         (λ q. rw (eq-eqb (h .desk x) (h .desk y) (ap (h .desk) q))
-            (eq-eqb (seen X h x x) (seen X h x y) (ap (λ n. key X (h .row n (h .desk x))) q))),
+            (eq-eqb (seen h x x) (seen h x y) (ap (λ n. key (h .row n (h .desk x))) q))),
       )
     where
       both : Upto h x y → Upto h y x → x ≡ y
@@ -107,10 +107,10 @@ module _ (X : Setup) (h : Log) (c : Causal X h) (x y : ℕ) (lx : x < h .count) 
       both (inr l) (inl q) = sym q
       both (inr l) (inr m) = absurd (let v = leads-lt h (c .caused) l in let w = leads-lt h (c .caused) m in omega arith)
 
-      to : h .desk x ≡ h .desk y → seen X h x x ≡ seen X h x y → x ≡ y
+      to : h .desk x ≡ h .desk y → seen h x x ≡ seen h x y → x ≡ y
       to q k =
           both (c .complete x y lx ly (omega arith))
-          (c .complete y x ly lx (subst (λ d. key X (h .row y d) ≤ key X (h .row x d)) q (omega arith)))
+          (c .complete y x ly lx (subst (λ d. key (h .row y d) ≤ key (h .row x d)) q (omega arith)))
 
 -- compare, with both true gaps
 module _ (X : Setup) (h : Log) (c : Causal X h) (x y : ℕ) (lx : x < h .count) (ly : y < h .count)

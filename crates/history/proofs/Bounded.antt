@@ -10,7 +10,7 @@ use Rattle.ring.specs.Phases.{line, Pair, isLater, later}
 use Rattle.rules.specs.Model.{phases}
 use Rattle.rules.proofs.Setups.{Permitted}
 use Rattle.rules.proofs.Accepted.{no-local, no-send, no-receive, no-reset}
-use Rattle.rules.specs.declared.Setup.{Setup}
+use Rattle.rules.specs.Setups.{Setup}
 use Rattle.tools.specs.Tests.{pick}
 use Rattle.tools.specs.Tables.{put}
 use Rattle.rules.specs.Model.{Row, Seat, Held, Tables, Act, local, reset, send, receive, drop, discard, ask}

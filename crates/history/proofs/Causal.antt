@@ -8,7 +8,7 @@ use native.Mathlib.Omega.{arith}
 use native.Mathlib.Decide.{ℕ-discrete}
 use lib.Dec.{eqb}
 use Rattle.ring.specs.Phases.{Pair}
-use Rattle.rules.specs.declared.Setup.{Setup}
+use Rattle.rules.specs.Setups.{Setup, limit}
 use Rattle.rules.specs.Model.{Row, zeros}
 use Rattle.history.specs.History.{Kind, cause, isReset, Log, Link, desk-link, mail-link, Leads, one, more, logged}
 use Rattle.history.specs.Vector.{Upto, Earlier, Last, Never}
@@ -18,8 +18,8 @@ use Rattle.tools.proofs.Tests.{lt-or-le}
 use Rattle.history.proofs.Keys.{key, key-earlier}
 
 -- the event's own pair, as a number, and what row f knows of the desk of e
-abbrev pub seen : Setup → Log → ℕ → ℕ → ℕ
-seen X h e f = key X (h .row f (h .desk e))
+abbrev pub seen : Log → ℕ → ℕ → ℕ
+seen h e f = key (h .row f (h .desk e))
 
 abbrev pub Caused : Log → Type 0
 Caused h = (f : ℕ) → f < h .count → Each (λ e. e < f) (cause (h .kind f))
@@ -28,14 +28,18 @@ Caused h = (f : ℕ) → f < h .count → Each (λ e. e < f) (cause (h .kind f))
 abbrev pub Origin : Log → ℕ → Pair → Type 0
 Origin h k q = (q ≡ zeros k) ⊎ ((e : ℕ) × (e < h .count) × (h .desk e ≡ k) × (h .row e k ≡ q))
 
+-- a clock of a pair for desk k: a byte, and below the limit of k where there is such a desk
+abbrev pub InLimit : Setup → ℕ → Pair → Type 0
+InLimit X k q = (q .clock < 256) × (k < X .desks → q .clock < limit X k)
+
 pub record Causal (X : Setup) (h : Log) : Type 0 where
-  pub clocks : (e : ℕ) → e < h .count → (k : ℕ) → h .row e k .clock < X .clocks
+  pub clocks : (e : ℕ) → e < h .count → (k : ℕ) → InLimit X k (h .row e k)
   pub caused : Caused h
   -- an event's own clock is 0 exactly where it is a reset
   pub kinds : (e : ℕ) → e < h .count → eqb (h .row e (h .desk e) .clock) 0 ≡ isReset (h .kind e)
-  pub positive : (e : ℕ) → e < h .count → 0 < seen X h e e
-  pub sound : (e f : ℕ) → e < h .count → f < h .count → Upto h e f → seen X h e e ≤ seen X h e f
-  pub complete : (e f : ℕ) → e < h .count → f < h .count → seen X h e e ≤ seen X h e f → Upto h e f
+  pub positive : (e : ℕ) → e < h .count → 0 < seen h e e
+  pub sound : (e f : ℕ) → e < h .count → f < h .count → Upto h e f → seen h e e ≤ seen h e f
+  pub complete : (e f : ℕ) → e < h .count → f < h .count → seen h e e ≤ seen h e f → Upto h e f
   pub origin : (f : ℕ) → f < h .count → (k : ℕ) → Origin h k (h .row f k)
 
 -- a link goes to a later event
@@ -80,17 +84,17 @@ below Q n e h f q = go (ℕ-discrete e n)
 
 -- what an event at j, its row r, must meet
 pub record Fits (X : Setup) (h : Log) (j : ℕ) (w : Kind) (r : Row) : Type 0 where
-  pub small : (k : ℕ) → r k .clock < X .clocks
+  pub clocks : (k : ℕ) → InLimit X k (r k)
   pub kind : eqb (r j .clock) 0 ≡ isReset w
   pub sent : Each (λ e. e < h .count) (cause w)
-  pub ahead : (f : ℕ) → f < h .count → key X (h .row f j) < key X (r j)
-  pub first : 0 < key X (r j)
+  pub ahead : (f : ℕ) → f < h .count → key (h .row f j) < key (r j)
+  pub first : 0 < key (r j)
   pub from : (k : ℕ) → (k ≡ j → ⊥) → Origin h k (r k)
   -- what leads to it is known to it
   pub tells : (e g : ℕ) → e < h .count → g < h .count → Upto h e g → (h .desk g ≡ j) ⊎ (cause w ≡ some g)
-      → (h .desk e ≡ j → ⊥) → seen X h e e ≤ key X (r (h .desk e))
+      → (h .desk e ≡ j → ⊥) → seen h e e ≤ key (r (h .desk e))
   -- what is known to it leads to it
-  pub heard : (e : ℕ) → e < h .count → (h .desk e ≡ j → ⊥) → seen X h e e ≤ key X (r (h .desk e))
+  pub heard : (e : ℕ) → e < h .count → (h .desk e ≡ j → ⊥) → seen h e e ≤ key (r (h .desk e))
       → (g : ℕ) × (g < h .count) × Upto h e g × ((h .desk g ≡ j) ⊎ (cause w ≡ some g))
 
 module _ (X : Setup) (h : Log) (c : Causal X h) (j : ℕ) (w : Kind) (r : Row) (fit : Fits X h j w r) where
@@ -103,17 +107,17 @@ module _ (X : Setup) (h : Log) (c : Causal X h) (j : ℕ) (w : Kind) (r : Row) (
   pub old-row : (i : ℕ) → i < h .count → (logged h j w r) .row i ≡ h .row i
   old-row i l = put-other (h .row) (h .count) r i (omega arith)
 
-  seen-old : (e f : ℕ) → e < h .count → f < h .count → seen X (logged h j w r) e f ≡ seen X h e f
-  seen-old e f a b = λ i. key X (old-row f b i (old-desk e a i))
+  seen-old : (e f : ℕ) → e < h .count → f < h .count → seen (logged h j w r) e f ≡ seen h e f
+  seen-old e f a b = λ i. key (old-row f b i (old-desk e a i))
 
-  seen-into : (e : ℕ) → e < h .count → seen X (logged h j w r) e (h .count) ≡ key X (r (h .desk e))
-  seen-into e a = λ i. key X (put-same (h .row) (h .count) r i (old-desk e a i))
+  seen-into : (e : ℕ) → e < h .count → seen (logged h j w r) e (h .count) ≡ key (r (h .desk e))
+  seen-into e a = λ i. key (put-same (h .row) (h .count) r i (old-desk e a i))
 
-  seen-from : (f : ℕ) → f < h .count → seen X (logged h j w r) (h .count) f ≡ key X (h .row f j)
-  seen-from f b = λ i. key X (old-row f b i (put-same (h .desk) (h .count) j i))
+  seen-from : (f : ℕ) → f < h .count → seen (logged h j w r) (h .count) f ≡ key (h .row f j)
+  seen-from f b = λ i. key (old-row f b i (put-same (h .desk) (h .count) j i))
 
-  seen-new : seen X (logged h j w r) (h .count) (h .count) ≡ key X (r j)
-  seen-new = λ i. key X (put-same (h .row) (h .count) r i (put-same (h .desk) (h .count) j i))
+  seen-new : seen (logged h j w r) (h .count) (h .count) ≡ key (r j)
+  seen-new = λ i. key (put-same (h .row) (h .count) r i (put-same (h .desk) (h .count) j i))
 
   caused : Caused (logged h j w r)
   caused =
@@ -161,14 +165,14 @@ module _ (X : Setup) (h : Log) (c : Causal X h) (j : ℕ) (w : Kind) (r : Row) (
   new-leads e g b (inr a) l = more (up e g a b) l
 
   -- e and the new event
-  to-new : (e : ℕ) → e < h .count → Leads (logged h j w r) e (h .count) → seen X h e e ≤ key X (r (h .desk e))
+  to-new : (e : ℕ) → e < h .count → Leads (logged h j w r) e (h .count) → seen h e e ≤ key (r (h .desk e))
   to-new e a l = go (ℕ-discrete (h .desk e) j)
     where
-      go : Dec (h .desk e ≡ j) → seen X h e e ≤ key X (r (h .desk e))
+      go : Dec (h .desk e ≡ j) → seen h e e ≤ key (r (h .desk e))
       go (yes q) = rw q (let z = fit .ahead e a in omega arith)
       go (no q) = let s = last-step l refl in fit .tells e (s .0) a (s .1) (s .2) (s .3) q
 
-  pub of-new : (e : ℕ) → e < h .count → seen X h e e ≤ key X (r (h .desk e)) → Leads (logged h j w r) e (h .count)
+  pub of-new : (e : ℕ) → e < h .count → seen h e e ≤ key (r (h .desk e)) → Leads (logged h j w r) e (h .count)
   of-new e a k = go (ℕ-discrete (h .desk e) j)
     where
       go : Dec (h .desk e ≡ j) → Leads (logged h j w r) e (h .count)
@@ -179,7 +183,7 @@ module _ (X : Setup) (h : Log) (c : Causal X h) (j : ℕ) (w : Kind) (r : Row) (
   no-later f b (inl q) = omega arith
   no-later f b (inr l) = let z = leads-lt (logged h j w r) caused l in omega arith
 
-  pub old-new : (e : ℕ) → e < h .count → Upto (logged h j w r) e (h .count) → seen X h e e ≤ key X (r (h .desk e))
+  pub old-new : (e : ℕ) → e < h .count → Upto (logged h j w r) e (h .count) → seen h e e ≤ key (r (h .desk e))
   old-new e a (inl q) = absurd (omega arith)
   old-new e a (inr l) = to-new e a l
 
@@ -199,7 +203,7 @@ module _ (X : Setup) (h : Log) (c : Causal X h) (j : ℕ) (w : Kind) (r : Row) (
   pub causal-next : Causal X (logged h j w r)
   causal-next =
       record {
-        clocks = put-all (λ e (ρ : Row). e < suc (h .count) → (k : ℕ) → ρ k .clock < X .clocks) (h .row) (h .count) r (λ l. fit .small)
+        clocks = put-all (λ e (ρ : Row). e < suc (h .count) → (k : ℕ) → InLimit X k (ρ k)) (h .row) (h .count) r (λ l. fit .clocks)
             (λ e ne l. c .clocks e (omega arith));
         caused = caused;
         kinds = λ e a. below (λ e. eqb ((logged h j w r) .row e ((logged h j w r) .desk e) .clock) 0 ≡ isReset ((logged h j w r) .kind e))
@@ -207,27 +211,27 @@ module _ (X : Setup) (h : Log) (c : Causal X h) (j : ℕ) (w : Kind) (r : Row) (
             (λ a. (λ i. eqb (old-row e a i (old-desk e a i) .clock) 0) ∙ c .kinds e a ∙ ap isReset (sym (old-kind e a)))
             ((λ i. eqb (put-same (h .row) (h .count) r i (put-same (h .desk) (h .count) j i) .clock) 0) ∙ fit .kind
             ∙ ap isReset (sym (put-same (h .kind) (h .count) w)));
-        positive = λ e a. below (λ e. 0 < seen X (logged h j w r) e e) (h .count) e a (λ a. rw (seen-old e e a a) (c .positive e a))
+        positive = λ e a. below (λ e. 0 < seen (logged h j w r) e e) (h .count) e a (λ a. rw (seen-old e e a a) (c .positive e a))
             (rw seen-new (fit .first));
-        sound = λ e f a b. below (λ e. Upto (logged h j w r) e f → seen X (logged h j w r) e e ≤ seen X (logged h j w r) e f) (h .count) e a
-            (λ a. below (λ f. Upto (logged h j w r) e f → seen X (logged h j w r) e e ≤ seen X (logged h j w r) e f) (h .count) f b
+        sound = λ e f a b. below (λ e. Upto (logged h j w r) e f → seen (logged h j w r) e e ≤ seen (logged h j w r) e f) (h .count) e a
+            (λ a. below (λ f. Upto (logged h j w r) e f → seen (logged h j w r) e e ≤ seen (logged h j w r) e f) (h .count) f b
             (λ b u. rw (seen-old e e a a, seen-old e f a b) (c .sound e f a b (down-to e f b u)))
             (λ u. rw (seen-old e e a a, seen-into e a) (old-new e a u)))
             (below (λ f. Upto (logged h j w r) (h .count) f
-            → seen X (logged h j w r) (h .count) (h .count) ≤ seen X (logged h j w r) (h .count) f) (h .count) f b
+            → seen (logged h j w r) (h .count) (h .count) ≤ seen (logged h j w r) (h .count) f) (h .count) f b
             (λ b u. absurd (no-later f b u))
             (λ u. omega arith));
         complete =
-            λ e f a b. below (λ e. seen X (logged h j w r) e e ≤ seen X (logged h j w r) e f → Upto (logged h j w r) e f) (h .count) e a
-            (λ a. below (λ f. seen X (logged h j w r) e e ≤ seen X (logged h j w r) e f → Upto (logged h j w r) e f) (h .count) f b
+            λ e f a b. below (λ e. seen (logged h j w r) e e ≤ seen (logged h j w r) e f → Upto (logged h j w r) e f) (h .count) e a
+            (λ a. below (λ f. seen (logged h j w r) e e ≤ seen (logged h j w r) e f → Upto (logged h j w r) e f) (h .count) f b
             (λ b k. up-to e f b (c .complete e f a b (rw (seen-old e e a a, seen-old e f a b) at k)))
             (λ k. inr (of-new e a (rw (seen-old e e a a, seen-into e a) at k))))
-            (below (λ f. seen X (logged h j w r) (h .count) (h .count) ≤ seen X (logged h j w r) (h .count) f
+            (below (λ f. seen (logged h j w r) (h .count) (h .count) ≤ seen (logged h j w r) (h .count) f
             → Upto (logged h j w r) (h .count) f) (h .count) f b
             (λ b k.
             absurd
             (let z = fit .ahead f b in
-            let z′ : key X (r j) ≤ key X (h .row f j) = rw (seen-new, seen-from f b) at k in
+            let z′ : key (r j) ≤ key (h .row f j) = rw (seen-new, seen-from f b) at k in
             omega arith))
             (λ k. inl refl));
         origin = λ f b. below (λ f. (k : ℕ) → Origin (logged h j w r) k ((logged h j w r) .row f k)) (h .count) f b
@@ -247,13 +251,13 @@ module _ (X : Setup) (h : Log) (c : Causal X h) where
   pub rising : (e f : ℕ) → e < f → f < h .count → h .desk e ≡ h .desk f → Earlier (h .row e (h .desk e)) (h .row f (h .desk e))
   rising e f l b q =
       let a : e < h .count = omega arith in
-      key-earlier X (h .row e (h .desk e)) (h .row f (h .desk e)) (c .clocks e a (h .desk e)) (c .clocks f b (h .desk e))
-      (go a (lt-or-le (seen X h e e) (seen X h e f)))
+      key-earlier (h .row e (h .desk e)) (h .row f (h .desk e)) (c .clocks e a (h .desk e) .0) (c .clocks f b (h .desk e) .0)
+      (go a (lt-or-le (seen h e e) (seen h e f)))
     where
-      go : e < h .count → (seen X h e e < seen X h e f) ⊎ (seen X h e f ≤ seen X h e e) → seen X h e e < seen X h e f
+      go : e < h .count → (seen h e e < seen h e f) ⊎ (seen h e f ≤ seen h e e) → seen h e e < seen h e f
       go a (inl z) = z
       go a (inr z) =
-          absurd (let y = upto-le f e (c .complete f e b a (subst (λ d. key X (h .row f d) ≤ key X (h .row e d)) q z)) in omega arith)
+          absurd (let y = upto-le f e (c .complete f e b a (subst (λ d. key (h .row f d) ≤ key (h .row e d)) q z)) in omega arith)
 
   pub entry : (f : ℕ) → f < h .count → (k : ℕ) → Never h f k ⊎ ((e : ℕ) × Last h f k e)
   entry f b k = go (c .origin f b k)
@@ -266,7 +270,7 @@ module _ (X : Setup) (h : Log) (c : Causal X h) where
                 let a = upto-in e f b u in
                 let x = c .sound e f a b u in
                 let y = c .positive e a in
-                let w : seen X h e f ≡ key X (zeros k) = ap (λ d. key X (h .row f d)) q ∙ ap (key X) z in
+                let w : seen h e f ≡ key (zeros k) = ap (λ d. key (h .row f d)) q ∙ ap key z in
                 omega arith;
           })
       go (inr (e, a, q, z)) =
@@ -276,10 +280,10 @@ module _ (X : Setup) (h : Log) (c : Causal X h) where
               is = a;
               at = q;
               pair = z;
-              leads = c .complete e f a b (let w : seen X h e e ≡ seen X h e f = rw q (ap (key X) z) in omega arith);
+              leads = c .complete e f a b (let w : seen h e e ≡ seen h e f = rw q (ap key z) in omega arith);
               last = λ e′ q′ u.
                   let a′ = upto-in e′ f b u in
                   upto-le e′ e (c .complete e′ e a′ a
-                  (let w : seen X h e′ e ≡ seen X h e′ f = rw q′ (ap (key X) z) in let x = c .sound e′ f a′ b u in omega arith));
+                  (let w : seen h e′ e ≡ seen h e′ f = rw q′ (ap key z) in let x = c .sound e′ f a′ b u in omega arith));
             },
           )

@@ -6,14 +6,13 @@ use mathlib.Core.Option.{Option, none, some}
 use mathlib.Core.Logic.{_⊎_, inl, inr, _↔_}
 use Prim.Native.Nat.{ℕ, zero, suc, _+_, _-_, _*_, _≤_, _<_}
 use native.Mathlib.Omega.{arith}
-use native.Mathlib.Nat.{mul-le-mul-right}
 use lib.Dec.{ltb, eqb}
 use borrow.Author.Tests.{eqb-true, eq-eqb, ltb-true, ltb-false, lt-ltb}
 use Rattle.tools.specs.Tests.{pick, lowest, counted}
 use Rattle.tools.specs.Tables.{Each}
 use Rattle.tools.proofs.Tests.{and-true-l, and-true-r, lt-or-le, Lowest, lowest-is, count-none}
 use Rattle.ring.specs.Phases.{Pair}
-use Rattle.rules.specs.declared.Setup.{Setup}
+use Rattle.rules.specs.Setups.{Setup}
 use Rattle.rules.specs.Model.{reachBack}
 use Rattle.rules.proofs.Setups.{Permitted}
 use Rattle.history.specs.History.{isReset, Log, Leads, desk-link, one, State}
@@ -105,13 +104,9 @@ module _ (h : Log) (j : ℕ) where
               let z : r ≡ h .count = omega (arith, ltb-false r (h .count) q, w .0) in
               omega (arith, ap (resets h j) (sym z) ∙ flat (omega arith))
 
--- a pair of the phase w, its clock k below L, is at least the first of the phase p exactly where w is at least p
-first-of : (L p w k : ℕ) → k < L → (p * L ≤ w * L + k) ↔ (p ≤ w)
-first-of L p w k l = (λ m. go (lt-or-le w p) m, λ m. let z = mul-le-mul-right L m in omega (arith, z))
-  where
-    go : (w < p) ⊎ (p ≤ w) → p * L ≤ w * L + k → p ≤ w
-    go (inl q) m = absurd (omega (arith, m, l, mul-le-mul-right L q))
-    go (inr q) m = q
+-- a pair of the phase w, its clock c a byte, is at least the first of the phase p exactly where w is at least p
+first-of : (p w c : ℕ) → c < 256 → (p * 256 ≤ w * 256 + c) ↔ (p ≤ w)
+first-of p w c l = (λ m. omega (arith, l, m), λ m. omega (arith, m))
 
 -- the reach back of an event with the phase v, by the a resets before it
 reset-by : (X : Setup) (t : Bool) (a v w : ℕ) → v ≡ counted t a → (v < w + reachBack X t) ↔ (a < w + X .back)
@@ -174,13 +169,13 @@ module _ (s : State) (w : Faithful s) (n : Counts s) (x y : ℕ)
 
   -- at desk k y knows the pair of r, or a later one
   abbrev Seen : ℕ → ℕ → Type 0
-  Seen r k = key X (h .row r k) ≤ key X (h .row y k)
+  Seen r k = key (h .row r k) ≤ key (h .row y k)
 
   -- a reset of x's desk is y, or leads to it, exactly where y knows its phase
   reset-known : (r : ℕ) → r < h .count → resetAt h j r ≡ true → Upto h r y ↔ (suc (resets h j r) ≤ known)
   reset-known r l t =
       let p = reset-phase r l t in
-      let f = first-of (X .clocks) (h .row r j .phase) known (h .row y j .clock) (c .clocks y ly j) in (
+      let f = first-of (h .row r j .phase) known (h .row y j .clock) (c .clocks y ly j .0) in (
         λ u. let z = f .0 (omega (arith, own, at (c .sound r y l ly u))) in omega (arith, p, z),
         λ k. c .complete r y l ly (back (omega (arith, own, f .1 (omega (arith, p, k))))),
       )

@@ -12,10 +12,9 @@ use native.Mathlib.Decide.{decLt}
 use lib.Dec.{eqb}
 use Rattle.ring.specs.Phases.{Gap}
 use Rattle.ring.proofs.Ring.{ring-lag, ring-back}
-use Rattle.rules.specs.declared.Setup.{Setup}
 use Rattle.rules.specs.declared.Relation.{Relation}
 use Rattle.rules.specs.declared.Relation.the-variants.{Before, After, Same, Concurrent, Crossed}
-use Rattle.rules.specs.Setups.{permits}
+use Rattle.rules.specs.Setups.{Setup, permits}
 use Rattle.rules.specs.Model.{Row, Answer, accepted, says, relates, reachBack, near, relation}
 use Rattle.rules.specs.Calls.{Call}
 use Rattle.rules.specs.Model.{Label}

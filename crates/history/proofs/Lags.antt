@@ -6,7 +6,7 @@ use mathlib.Core.List.{List, [], _∷_}
 use Prim.Native.Nat.{ℕ, _-_, _≤_}
 use native.Mathlib.Omega.{arith}
 use Rattle.ring.specs.Phases.{Phases, line}
-use Rattle.rules.specs.declared.Setup.{Setup}
+use Rattle.rules.specs.Setups.{Setup}
 use Rattle.rules.specs.Model.{Row, Held, Tables, Label, Act, Result, rowIn, phases, step}
 use Rattle.rules.specs.Calls.{Book, Call, start, on, Turn, freshBook, turnOf, lineOf, call}
 use Rattle.tools.specs.Tables.{Each}

@@ -14,7 +14,7 @@ use Rattle.tools.proofs.Tests.{and-true-l, and-true-r, count-zero, zero-count}
 use Rattle.tools.proofs.Tables.{put-same, some-is}
 use Rattle.ring.specs.Phases.{ring, line, Pair}
 use Rattle.ring.proofs.Ring.{later-takes, later-stays}
-use Rattle.rules.specs.declared.Setup.{Setup}
+use Rattle.rules.specs.Setups.{Setup}
 use Rattle.rules.specs.Model.{Row, Seat, Tables, Answer, receive, zeros, own, rowIn, merged, taken, learns, learnt, why, done, settle, step}
 use Rattle.rules.specs.Calls.{on, ringOf, lineOf, call}
 use Rattle.rules.proofs.Setups.{Permitted}
@@ -53,7 +53,8 @@ module _ (X : Setup) (ok : Permitted X) (b : Tables) (h : History) (g : Good X b
 
   fit : Fits X (h .log) j (Receive (h .mailed p)) r
   fit =
-      merging X ok b h g j (h .mailed p) m (sent .0) (sent .1) (g .bounded .past .mail p) (no-receive line X b j p q z .2)
+      let n = no-receive line X b j p q z in
+      merging X ok b h g j (h .mailed p) m (sent .0) (sent .1) (g .bounded .past .mail p) (n .0) (n .2)
 
   at-j : h′ .desk e ≡ j
   at-j = put-same (h .log .desk) e j
@@ -66,12 +67,12 @@ module _ (X : Setup) (ok : Permitted X) (b : Tables) (h : History) (g : Good X b
   earlier x l = leads-lt h′ (causal-next X (h .log) (g .causal) j (Receive (h .mailed p)) r fit .caused) l
 
   -- its desk knew of an event exactly where its seat did
-  knew-seat : (x : ℕ) → x < e → Knew h′ e x → seen X (h .log) x x ≤ key X (b .seat j .row (h .log .desk x))
+  knew-seat : (x : ℕ) → x < e → Knew h′ e x → seen (h .log) x x ≤ key (b .seat j .row (h .log .desk x))
   knew-seat x a (f, (l, d, last), u) =
       seat-tells X ok b h g j x f a l (down-to X (h .log) (g .causal) j (Receive (h .mailed p)) r fit x f l u)
       (sym (same-desk f l) ∙ d ∙ at-j)
 
-  seat-knew : (x : ℕ) → x < e → seen X (h .log) x x ≤ key X (b .seat j .row (h .log .desk x)) → Knew h′ e x
+  seat-knew : (x : ℕ) → x < e → seen (h .log) x x ≤ key (b .seat j .row (h .log .desk x)) → Knew h′ e x
   seat-knew x a l = go (b .seat j .started) (g .seats j)
     where
       go : (t : Bool) → SeatOf (h .log) j t (b .seat j .row) → Knew h′ e x
@@ -82,17 +83,17 @@ module _ (X : Setup) (ok : Permitted X) (b : Tables) (h : History) (g : Good X b
             (g .causal .complete x (s .0) a (s .1) (rw (s .3) l)),
       )
       go false s =
-          let y : key X (b .seat j .row (h .log .desk x)) ≡ key X (zeros (h .log .desk x)) =
-          ap (λ (ρ : Row). key X (ρ (h .log .desk x))) (s .0) in
+          let y : key (b .seat j .row (h .log .desk x)) ≡ key (zeros (h .log .desk x)) =
+          ap (λ (ρ : Row). key (ρ (h .log .desk x))) (s .0) in
           let w = g .causal .positive x a in
           absurd (omega arith)
 
   -- what the receive leaves for another desk: the mail's pair where that is later, else the seat's
   module _ (k : ℕ) (ne : k ≡ j → ⊥) where
-    by-key : taken line b j m k .changed ≡ ltb (key X (b .seat j .row k)) (key X (m k))
+    by-key : taken line b j m k .changed ≡ ltb (key (b .seat j .row k)) (key (m k))
     by-key =
-        later-key X (own b k .phase) (b .seat j .row k) (m k) (g .bounded .past .seats j k) (g .bounded .past .mail p k)
-        (seat-clock X ok b h g j k) (rw (sent .1) at (g .causal .clocks (h .mailed p) (sent .0) k))
+        later-key (own b k .phase) (b .seat j .row k) (m k) (g .bounded .past .seats j k) (g .bounded .past .mail p k)
+        (seat-clock X ok b h g j k .0) (rw (sent .1) at (g .causal .clocks (h .mailed p) (sent .0) k .0))
 
     takes : taken line b j m k .changed ≡ true → r k ≡ m k
     takes t = merged-other line X b j m k ne ∙ later-takes line (own b k .phase) (b .seat j .row k) (m k) t
@@ -104,15 +105,15 @@ module _ (X : Setup) (ok : Permitted X) (b : Tables) (h : History) (g : Good X b
     changed-tells : taken line b j m k .changed ≡ true → Tells h′ e k
     changed-tells t = go (rw (sent .1) at (g .causal .origin (h .mailed p) (sent .0) k))
       where
-        less : key X (b .seat j .row k) < key X (m k)
+        less : key (b .seat j .row k) < key (m k)
         less = ltb-true _ _ (sym by-key ∙ t)
 
         go : Origin (h .log) k (m k) → Tells h′ e k
-        go (inl w) = let y : key X (m k) ≡ key X (zeros k) = ap (key X) w in absurd (omega (arith, less, y))
+        go (inl w) = let y : key (m k) ≡ key (zeros k) = ap key w in absurd (omega (arith, less, y))
         go (inr (x, a, d, w)) =
-            let y : seen X (h .log) x x ≡ key X (m k) = rw d (ap (key X) w) in
-            let v : key X (r (h .log .desk x)) ≡ key X (m k) = rw d (ap (key X) (takes t)) in
-            let u : key X (b .seat j .row (h .log .desk x)) ≡ key X (b .seat j .row k) = ap (λ i. key X (b .seat j .row i)) d in (
+            let y : seen (h .log) x x ≡ key (m k) = rw d (ap key w) in
+            let v : key (r (h .log .desk x)) ≡ key (m k) = rw d (ap key (takes t)) in
+            let u : key (b .seat j .row (h .log .desk x)) ≡ key (b .seat j .row k) = ap (λ i. key (b .seat j .row i)) d in (
               x,
               same-desk x a ∙ d,
               inr (of-new X (h .log) (g .causal) j (Receive (h .mailed p)) r fit x a (omega (arith, y, v))),
@@ -120,9 +121,9 @@ module _ (X : Setup) (ok : Permitted X) (b : Tables) (h : History) (g : Good X b
             )
 
     -- an event behind the receive is known to the row that it leaves
-    behind : (x : ℕ) → h .log .desk x ≡ k → x < e → Upto h′ x e → seen X (h .log) x x ≤ key X (r k)
+    behind : (x : ℕ) → h .log .desk x ≡ k → x < e → Upto h′ x e → seen (h .log) x x ≤ key (r k)
     behind x d a u =
-        subst (λ i. seen X (h .log) x x ≤ key X (r i)) d (old-new X (h .log) (g .causal) j (Receive (h .mailed p)) r fit x a u)
+        subst (λ i. seen (h .log) x x ≤ key (r i)) d (old-new X (h .log) (g .causal) j (Receive (h .mailed p)) r fit x a u)
 
     tells-changed : Tells h′ e k → taken line b j m k .changed ≡ true
     tells-changed (x, d, inl w, n) = absurd (ne (sym d ∙ ap (h′ .desk) w ∙ at-j))
@@ -137,8 +138,8 @@ module _ (X : Setup) (ok : Permitted X) (b : Tables) (h : History) (g : Good X b
         go : (t : Bool) → taken line b j m k .changed ≡ t → t ≡ true
         go true t = refl
         go false t =
-            absurd (n (seat-knew x a (subst (λ i. seen X (h .log) x x ≤ key X (b .seat j .row i)) (sym d′)
-            (subst (λ (y : Pair). seen X (h .log) x x ≤ key X y) (stays t) (behind x d′ a (inr w))))))
+            absurd (n (seat-knew x a (subst (λ i. seen (h .log) x x ≤ key (b .seat j .row i)) (sym d′)
+            (subst (λ (y : Pair). seen (h .log) x x ≤ key y) (stays t) (behind x d′ a (inr w))))))
 
   told-is : (k : ℕ) → (learns line b j m k ≡ true) ↔ ((k ≡ h′ .desk e → ⊥) × Tells h′ e k)
   told-is k = (
@@ -157,7 +158,7 @@ module _ (X : Setup) (ok : Permitted X) (b : Tables) (h : History) (g : Good X b
       known w x a l (no d) =
           let k = h .log .desk x in
           let t = sym (learns-changed line X b j m k d) ∙ count-zero (X .desks) (learns line b j m) w k (g .there x a) in
-          seat-knew x a (subst (λ (y : Pair). seen X (h .log) x x ≤ key X y) (stays k d t) (behind k d x refl a (inr l)))
+          seat-knew x a (subst (λ (y : Pair). seen (h .log) x x ≤ key y) (stays k d t) (behind k d x refl a (inr l)))
 
       none-told : ((x : ℕ) → Leads h′ x e → Knew h′ e x) → learnt line X b j m ≡ 0
       none-told f = zero-count (X .desks) (learns line b j m) (λ k l. off k (learns line b j m k) refl)

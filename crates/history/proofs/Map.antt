@@ -11,7 +11,7 @@ use lib.Dec.{ltb, eqb}
 use lib.ListN.{length}
 use borrow.Author.Tests.{ltb-true}
 use Rattle.ring.specs.Phases.{Phases, Pair, isLater}
-use Rattle.rules.specs.declared.Setup.{Setup}
+use Rattle.rules.specs.Setups.{Setup}
 use Rattle.tools.specs.Tests.{pick, any}
 use Rattle.tools.specs.Tables.{put, putAt}
 use Rattle.rules.specs.Model.{Row, Seat, Held, Tables, Question, askBefore, askCompare, askPicture, askShow, askWrite, Act, local, reset, send, receive, drop, discard, ask}

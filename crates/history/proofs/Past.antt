@@ -10,7 +10,7 @@ use Rattle.tools.specs.Tables.{put, putAt}
 use Rattle.tools.specs.Reasons.{first}
 use Rattle.tools.proofs.Tables.{put-all, put-at-all, put-same, put-other, Each-all}
 use Rattle.ring.specs.Phases.{Phases, Pair, isLater, later}
-use Rattle.rules.specs.declared.Setup.{Setup}
+use Rattle.rules.specs.Setups.{Setup}
 use Rattle.rules.specs.Model.{Row, Seat, Held, Tables, Act, local, reset, send, receive, drop, discard, ask}
 use Rattle.rules.specs.Model.{why, done, step, settle, fresh, seated, freeMail, slotFor, rowIn, own, phases, tick, turn, grown, taken}
 use Rattle.rules.specs.Model.{nothing, accepted}

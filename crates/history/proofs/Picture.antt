@@ -23,8 +23,7 @@ use Rattle.tools.specs.Tests.{pick, any}
 use Rattle.tools.specs.Tables.{Each}
 use Rattle.tools.proofs.Tests.{lt-or-le, or-false-l, or-false-r, not-off, any-false, none-any}
 use Rattle.ring.specs.Phases.{line}
-use Rattle.rules.specs.declared.Setup.{Setup}
-use Rattle.rules.specs.Setups.{permits}
+use Rattle.rules.specs.Setups.{Setup, permits}
 use Rattle.rules.specs.Model.{Row, Held, Tables, picture, Value, says, names, Answer, accepted, used, rowIn, byIn, zeros, own, phases, isOut}
 use Rattle.rules.specs.Model.{noSlot, chosen, ofTwo, wrongOwner, knowsMore, atOdds, pictured, gap, gapHeld, gapFrom, tooFar}
 use Rattle.rules.specs.Model.{reachBack, telling, settle, askReasons, reasons, askTells, done, step}
@@ -53,39 +52,39 @@ module _ (X : Setup) (h : Log) (w : Causal X h) where
 
   -- the row of f has a later pair for the desk of e than e's own exactly where a later event of that desk is f or leads to it
   module _ (e f : ℕ) (a : e < h .count) (b : f < h .count) where
-    known-beyond : seen X h e e < seen X h e f → Beyond e f
+    known-beyond : seen h e e < seen h e f → Beyond e f
     known-beyond l = go (entry X h w f b (h .desk e))
       where
         -- an event up to e has no later pair
-        not-later : (y : ℕ) → y < h .count → h .desk y ≡ h .desk e → y ≤ e → Dec (y ≡ e) → seen X h e y ≤ seen X h e e
+        not-later : (y : ℕ) → y < h .count → h .desk y ≡ h .desk e → y ≤ e → Dec (y ≡ e) → seen h e y ≤ seen h e e
         not-later y m d n (yes q) =
-            let z : seen X h e y ≡ seen X h e e = ap (λ u. key X (h .row u (h .desk e))) q in omega arith
+            let z : seen h e y ≡ seen h e e = ap (λ u. key (h .row u (h .desk e))) q in omega arith
         not-later y m d n (no ne) =
-            subst (λ j. key X (h .row y j) ≤ key X (h .row e j)) d
+            subst (λ j. key (h .row y j) ≤ key (h .row e j)) d
             (w .sound y e m a (inr (one (desk-link {e = y} {f = e} (omega arith) a d))))
 
         go : Never h f (h .desk e) ⊎ ((y : ℕ) × Last h f (h .desk e) y) → Beyond e f
-        go (inl n) = absurd (let z : seen X h e f ≡ key X (zeros (h .desk e)) = ap (key X) (n .pair) in omega arith)
+        go (inl n) = absurd (let z : seen h e f ≡ key (zeros (h .desk e)) = ap key (n .pair) in omega arith)
         go (inr (y, t)) = (y, t .at, up (lt-or-le e y), t .leads)
           where
             up : (e < y) ⊎ (y ≤ e) → e < y
             up (inl m) = m
             up (inr m) =
-                let z : seen X h e y ≡ seen X h e f = ap (key X) (t .pair) in
+                let z : seen h e y ≡ seen h e f = ap key (t .pair) in
                 let n = not-later y (t .is) (t .at) m (ℕ-discrete y e) in
                 absurd (omega arith)
 
-    beyond-known : Beyond e f → seen X h e e < seen X h e f
+    beyond-known : Beyond e f → seen h e e < seen h e f
     beyond-known (y, d, l, u) =
         let m = upto-in X h w y f b u in
-        let z : seen X h e y ≤ seen X h e f = subst (λ j. key X (h .row y j) ≤ key X (h .row f j)) d (w .sound y f m b u) in
-        go m z (lt-or-le (seen X h e e) (seen X h e y))
+        let z : seen h e y ≤ seen h e f = subst (λ j. key (h .row y j) ≤ key (h .row f j)) d (w .sound y f m b u) in
+        go m z (lt-or-le (seen h e e) (seen h e y))
       where
-        go : y < h .count → seen X h e y ≤ seen X h e f → (seen X h e e < seen X h e y) ⊎ (seen X h e y ≤ seen X h e e)
-            → seen X h e e < seen X h e f
+        go : y < h .count → seen h e y ≤ seen h e f → (seen h e e < seen h e y) ⊎ (seen h e y ≤ seen h e e)
+            → seen h e e < seen h e f
         go m z (inl n) = omega arith
         go m z (inr n) =
-            let q = upto-le X h w y e (w .complete y e m a (subst (λ j. key X (h .row y j) ≤ key X (h .row e j)) (sym d) n)) in
+            let q = upto-le X h w y e (w .complete y e m a (subst (λ j. key (h .row y j) ≤ key (h .row e j)) (sym d) n)) in
             absurd (omega arith)
 
   -- the choices of two desks, each its desk's own
@@ -109,7 +108,7 @@ module _ (X : Setup) (h : Log) (w : Causal X h) where
         up z (yes p) = inr (subst (Leads h y) p q)
         up z (no p) = inr (more q (desk-link {e = x} {f = c k} (omega arith) lk (dx ∙ sym dk)))
 
-    choice-known : (ltb (seen X h (c i) (c i)) (seen X h (c i) (c k)) ≡ true) ↔ Caused h c k i
+    choice-known : (ltb (seen h (c i) (c i)) (seen h (c i) (c k)) ≡ true) ↔ Caused h c k i
     choice-known = (
       λ t. beyond-caused (known-beyond (c i) (c k) li lk (ltb-true _ _ t)),
       λ u. lt-ltb _ _ (beyond-known (c i) (c k) li lk (caused-beyond u)),
@@ -197,17 +196,17 @@ module _ (X : Setup) (ok : Permitted X) (b : Tables) (h : History) (g : Good X b
   past : (s : ℕ) → Kept s → Past b (h .log .row (h .kept s))
   past s p = subst (Past b) (p .row) (g .bounded .past .shelf s)
 
-  clock : (s : ℕ) → Kept s → (j : ℕ) → rowIn (b .shelf s) j .clock < X .clocks
-  clock s p j = subst (λ (r : Row). r j .clock < X .clocks) (sym (p .row)) (g .causal .clocks (h .kept s) (p .is) j)
+  clock : (s : ℕ) → Kept s → (j : ℕ) → rowIn (b .shelf s) j .clock < 256
+  clock s p j = subst (λ (r : Row). r j .clock < 256) (sym (p .row)) (g .causal .clocks (h .kept s) (p .is) j .0)
 
   -- no phase is ahead of its own desk's: by their lags, as by their pairs
   more-is : (s t : ℕ) → Kept s → Kept t
-      → knowsMore line b s t ≡ ltb (seen X (h .log) (h .kept s) (h .kept s)) (seen X (h .log) (h .kept s) (h .kept t))
+      → knowsMore line b s t ≡ ltb (seen (h .log) (h .kept s) (h .kept s)) (seen (h .log) (h .kept s) (h .kept t))
   more-is s t p q =
       let j = byIn (b .shelf s) in
-      later-key X (own b j .phase) (rowIn (b .shelf s) j) (rowIn (b .shelf t) j)
+      later-key (own b j .phase) (rowIn (b .shelf s) j) (rowIn (b .shelf t) j)
       (g .bounded .past .shelf s j) (g .bounded .past .shelf t j) (clock s p j) (clock t q j)
-      ∙ (λ i. ltb (key X (p .row i (p .owner i))) (key X (q .row i (p .owner i))))
+      ∙ (λ i. ltb (key (p .row i (p .owner i))) (key (q .row i (p .owner i))))
 
   gap-is : (o o′ : Option Held) → used o ≡ true → used o′ ≡ true → gapHeld line X b o o′ ≡ gap line X b (byIn o) (rowIn o) (rowIn o′)
   gap-is none o′ u v = absurd (false≢true u)

@@ -15,8 +15,7 @@ use Rattle.tools.specs.Reasons.{ifDone}
 use Rattle.tools.proofs.Tests.{lt-or-le, count-none, count-more, count-cong}
 use Rattle.tools.proofs.Tables.{put-all, put-same, put-other}
 use Rattle.ring.specs.Phases.{line, Pair}
-use Rattle.rules.specs.declared.Setup.{Setup}
-use Rattle.rules.specs.Setups.{permits}
+use Rattle.rules.specs.Setups.{Setup, permits}
 use Rattle.rules.specs.Model.{Row, Seat, Held, Tables, Act, local, reset, send, receive, drop, discard, ask}
 use Rattle.rules.specs.Model.{step, done, why, grown, taken, merged, turned, seated, rowIn, own, phases, tick, turn, settle}
 use Rattle.rules.specs.Calls.{Call, start, on, lineOf, call}

@@ -7,8 +7,7 @@ use native.Mathlib.Omega.{arith}
 use Rattle.tools.specs.Tests.{pick}
 use Rattle.tools.specs.Reasons.{ifDone}
 use Rattle.ring.specs.Phases.{Phases}
-use Rattle.rules.specs.declared.Setup.{Setup}
-use Rattle.rules.specs.Setups.{permits}
+use Rattle.rules.specs.Setups.{Setup, permits}
 use Rattle.rules.specs.Model.{nothing, accepted}
 use Rattle.rules.specs.Calls.{Book, Call, start, on, Turn, freshBook, settled, lineOf, call}
 use Rattle.history.specs.History.{State, none-yet, begin, next, after}

@@ -10,10 +10,9 @@ use Prim.Native.Nat.{ℕ}
 use native.Mathlib.Omega.{arith}
 use native.Mathlib.Decide.{decLt}
 use Rattle.ring.specs.Phases.{line}
-use Rattle.rules.specs.declared.Setup.{Setup}
 use Rattle.rules.specs.declared.Relation.{Relation}
 use Rattle.rules.specs.declared.Relation.the-variants.{Crossed}
-use Rattle.rules.specs.Setups.{permits}
+use Rattle.rules.specs.Setups.{Setup, permits}
 use Rattle.tools.proofs.Tables.{some-is, none-some}
 use Rattle.rules.specs.Model.{Held, before, compare, used, Value, relates, nothing, Answer, refusal, step}
 use Rattle.rules.specs.Calls.{Book, Call, on, Turn, freshBook, ringOf, call}

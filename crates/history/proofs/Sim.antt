@@ -8,7 +8,7 @@ use native.Mathlib.Omega.{arith}
 use native.Mathlib.Nat.{zero-mod}
 use Rattle.ring.specs.Phases.{ring, line}
 use Rattle.rules.proofs.Setups.{Permitted}
-use Rattle.rules.specs.declared.Setup.{Setup}
+use Rattle.rules.specs.Setups.{Setup}
 use Rattle.rules.specs.Model.{Held, Tables, Act, step, rowIn, fresh}
 use Rattle.history.specs.Round.{modulo, roundTables, roundResult}
 use Rattle.tools.specs.Tables.{Each}

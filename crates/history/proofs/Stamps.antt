@@ -10,8 +10,7 @@ use Rattle.tools.specs.Tables.{Each}
 use Rattle.tools.specs.Reasons.{ifDone}
 use Rattle.tools.proofs.Tables.{put-same, put-other, some-is, none-some}
 use Rattle.ring.specs.Phases.{line}
-use Rattle.rules.specs.declared.Setup.{Setup}
-use Rattle.rules.specs.Setups.{permits}
+use Rattle.rules.specs.Setups.{Setup, permits}
 use Rattle.rules.specs.Model.{Row, Held, Label, Question, slotAsked, Act, local, reset, send, receive, drop, discard, ask, slotOf}
 use Rattle.rules.specs.Model.{Value, Answer, byIn, rowIn, used, why, askTells, done, step, settle}
 use Rattle.rules.specs.Calls.{Book, Call, start, on, call}

@@ -10,8 +10,7 @@ use mathlib.Core.Logic.{_↔_}
 use Prim.Native.Nat.{ℕ, _*_, _<_}
 use borrow.Author.Tests.{eqb-true, eq-eqb}
 use Rattle.tools.specs.Tables.{Each}
-use Rattle.rules.specs.declared.Setup.{Setup}
-use Rattle.rules.specs.Setups.{permits}
+use Rattle.rules.specs.Setups.{Setup, permits}
 use Rattle.rules.specs.Model.{Held, Tables, Label, before, phases, used}
 use Rattle.rules.specs.Calls.{Book, Call, on, freshBook, ringOf, call}
 use Rattle.rules.specs.Labels.{beforeOff}
@@ -55,13 +54,13 @@ module _ (s : State) (w : Faithful s) where
   held-close : (B p e : ℕ) (o : Option Held) → Each (NearAt (phases b) B p) o → Each (Behind (s .history .log) e) o
       → Each (λ (v : Held). Close (s .book .setup) b B (v .row)) o
   held-close B p e none q r = tt
-  held-close B p e (some v) q r = λ k. (q .1 k, rw (r .2) at (w .good .causal .clocks e (r .0) k))
+  held-close B p e (some v) q r = λ k. (q .1 k, rw (r .2) at (w .good .causal .clocks e (r .0) k .1))
 
   state-pattern : Pattern (s .book .setup) b
   state-pattern =
       let near = w .good .bounded .near in
       record {
-        seats = λ j l k. (near .seats j l k, seat-clock (s .book .setup) (allowed s w) b (s .history) (w .good) j k);
+        seats = λ j l k. (near .seats j l k, seat-clock (s .book .setup) (allowed s w) b (s .history) (w .good) j k .1);
         mail = λ p. held-close (2 * s .book .setup .seatLag) p (s .history .mailed p) (b .mail p) (near .mail p) (w .good .mail p);
         shelf = λ p. held-close (s .book .setup .shelfLag) p (s .history .kept p) (b .shelf p) (near .shelf p) (w .good .shelf p);
       }
@@ -80,7 +79,8 @@ module _ (X : Setup) (fair : permits X ≡ true) (cs : List Call) where
       let k = faithful-run X fair cs .good .causal .kinds e l in
       (λ q. is-reset _ (sym k ∙ eq-eqb _ 0 q), λ q. eqb-true _ 0 (k ∙ ap isReset q))
 
-  -- In every seat of a desk, every waiting mail and every used slot the true lags are within M, 2M and A, and the clocks below L.
+  -- In every seat of a desk, every waiting mail and every used slot the true lags are within M, 2M and A, and each clock is below the
+  -- limit of the desk that its pair is for.
   pub pattern : Pattern (setupAfter X cs) (after (begin X) cs .book .tables)
   pattern = state-pattern (after (begin X) cs) (faithful-run X fair cs)
 

@@ -5,8 +5,7 @@ use mathlib.Core.Path.{_≡_}
 use mathlib.Core.Bool.{true}
 use mathlib.Core.List.{List}
 use Prim.Native.Nat.{ℕ, _<_}
-use Rattle.rules.specs.declared.Setup.{Setup}
-use Rattle.rules.specs.Setups.{permits}
+use Rattle.rules.specs.Setups.{Setup, permits}
 use Rattle.rules.specs.Calls.{Call}
 use Rattle.history.specs.History.{State, Leads, begin, after, logAfter}
 use Rattle.history.specs.Vector.{Rises, Entries}

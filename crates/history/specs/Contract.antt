@@ -12,7 +12,7 @@
 --   Reached h m n x y   PR^m of x is the beginning, is y or leads to y, and NX^n of x neither is y nor leads to y
 --   R h m n x y         the comparison predicate R(m,n): PR^m of x is the beginning or leads to y, and NX^n of x does not lead to y
 --   Meets h m n x y     the question from x to y meets the contract: R(m,n), and y is not NX^n of x itself
---   Close X b B r       in the row r every phase lags at most B behind the own phase of its desk, and every clock is below L
+--   Close X b B r       in the row r every phase lags at most B behind its desk's own, and every clock is below its desk's limit
 --   Pattern X b         every row of a desk's seat is close by M, of waiting mail by 2M, of a used slot by A
 use mathlib.Core.Path.{_≡_}
 use mathlib.Core.Bool.{Bool, _&&_}
@@ -21,7 +21,7 @@ use Prim.Native.Nat.{ℕ, zero, suc, _+_, _*_, _≤_, _<_}
 use lib.Dec.{ltb, eqb}
 use Rattle.tools.specs.Tests.{pick, lowest}
 use Rattle.tools.specs.Tables.{Each}
-use Rattle.rules.specs.declared.Setup.{Setup}
+use Rattle.rules.specs.Setups.{Setup, limit}
 use Rattle.rules.specs.Model.{Row, Held, Tables, phases}
 use Rattle.history.specs.History.{isReset, Log, Leads}
 use Rattle.history.specs.Vector.{Upto}
@@ -63,7 +63,7 @@ abbrev pub Meets : Log → ℕ → ℕ → ℕ → ℕ → Type 0
 Meets h m n x y = R h m n x y × (following h n x ≡ some y → ⊥)
 
 abbrev pub Close : Setup → Tables → ℕ → Row → Type 0
-Close X b B r = (k : ℕ) → (phases b k ≤ r k .phase + B) × (r k .clock < X .clocks)
+Close X b B r = (k : ℕ) → (phases b k ≤ r k .phase + B) × (k < X .desks → r k .clock < limit X k)
 
 pub record Pattern (X : Setup) (b : Tables) : Type 0 where
   pub seats : (j : ℕ) → j < X .desks → Close X b (X .seatLag) (b .seat j .row)

@@ -23,7 +23,7 @@ use Prim.Native.Nat.{ℕ, suc, _<_}
 use Rattle.tools.specs.Tables.{put, putAt}
 use Rattle.tools.specs.Reasons.{ifDone}
 use Rattle.ring.specs.Phases.{line}
-use Rattle.rules.specs.declared.Setup.{Setup}
+use Rattle.rules.specs.Setups.{Setup}
 use Rattle.rules.specs.Model.{
   Row,
   Tables,

@@ -7,7 +7,7 @@
 use mathlib.Core.List.{List, [], _∷_, map}
 use Prim.Native.Nat.{ℕ}
 use Rattle.ring.specs.Phases.{Phases}
-use Rattle.rules.specs.declared.Setup.{Setup}
+use Rattle.rules.specs.Setups.{Setup}
 use Rattle.rules.specs.Calls.{Book, Call, Turn, call}
 use Rattle.history.specs.Round.{roundTurn}
 

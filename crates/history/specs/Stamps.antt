@@ -15,8 +15,7 @@ use mathlib.Core.Bool.{false}
 use mathlib.Core.Option.{Option, none, some}
 use mathlib.Core.List.{List, [], _∷_, _++_}
 use Prim.Native.Nat.{ℕ, _<_}
-use Rattle.rules.specs.declared.Setup.{Setup}
-use Rattle.rules.specs.Setups.{permits}
+use Rattle.rules.specs.Setups.{Setup, permits}
 use Rattle.rules.specs.Model.{Row, Held, Tables, Label, Act, slotOf, Value, byIn}
 use Rattle.rules.specs.Calls.{Book, Call, start, on, ringOf, freshBook, call}
 use Rattle.history.specs.Round.{roundRow}

@@ -10,11 +10,11 @@ use lib.ListN.{length, replicate}
 use Rattle.tools.specs.Tests.{pick}
 use Rattle.tools.specs.Lists.{byte, tab}
 use Rattle.ring.specs.Phases.{Pair, lagOf}
-use Rattle.rules.specs.declared.Setup.{Setup}
 use Rattle.rules.specs.declared.Relation.{Relation}
 use Rattle.rules.specs.declared.Compared.{Compared}
 use Rattle.rules.specs.declared.Compared.the-variants as Compares
-use Rattle.rules.specs.Setups.{permits}
+use Rattle.rules.specs.declared.SetupNumbers.{SetupNumbers}
+use Rattle.rules.specs.Setups.{Setup, setupWith, permits}
 use Rattle.rules.specs.Numbers.{BadStamp, number}
 use Rattle.rules.specs.Model.{stamp, relates, Answer, refusal, accepted, near, isOut}
 use Rattle.rules.specs.Model.{Label}
@@ -30,7 +30,7 @@ use Rattle.parts.specs.Slices.{Slice}
 use Rattle.labels.specs.declared.Owner.{Owner}
 use Rattle.labels.specs.declared.Owner.the-variants.{Of, Refused}
 use Rattle.labels.specs.Records.{readAs, ownerSays, rowBeside, HandedBack}
-use Rattle.labels.specs.Asked.{ownerRead, Both, WayRead, Owned}
+use Rattle.labels.specs.Asked.{ownerRead, Both, Between, WayRead, Owned}
 use Rattle.labels.proofs.Records.{label-pair, row-dropped, pair-below, stamp-told, read-readable}
 
 -- a record that reads tells what its bytes do
@@ -78,15 +78,6 @@ pub unread : (X : Setup) (a b : List ℕ) (n : ℕ) → permits X ≡ true
     → ((out : Bool) → whyOff X (readStamp X a) (readStamp X b) out ≡ n) × (n ≡ 0 → ⊥)
 unread X a b n p u q = (λ out. rw (p, u) (sym q), λ z. omega (arith, q, z))
 
--- what the way from the record a of desk j to the record b asks
-pub record Ready (X : Setup) (a b : List ℕ) (j : ℕ) : Type 0 where
-  pub fair : Permitted X
-  pub one : length a ≡ 20
-  pub two : length b ≡ 20
-  pub desk : j < X .desks
-  pub first : byte a (rowSpot + phaseSpot j) < X .phases
-  pub second : byte b (rowSpot + phaseSpot j) < X .phases
-
 module _ (X : Setup) (a b : List ℕ) (j : ℕ) (h : Both X a b) (own : ownerIn (readStamp X a) ≡ j) where
   fair : Permitted X
   fair = permitted X (h .fair)
@@ -110,17 +101,6 @@ module _ (X : Setup) (a b : List ℕ) (j : ℕ) (h : Both X a b) (own : ownerIn 
   phase-below r e =
       let p = pair-below X j (labelOf r .row j) (read-readable X (fair .few) r (labelOf r) e .row j) desk in
       rw (label-pair r j eight) at (p .0)
-
-  pub ready : Ready X a b j
-  ready =
-      record {
-        fair = fair;
-        one = stamp-told X a (labelOf a) one .0 .size;
-        two = stamp-told X b (labelOf b) two .0 .size;
-        desk = desk;
-        first = phase-below a one;
-        second = phase-below b two;
-      }
 
   -- read where the desk's phase and clock stand
   module _ (p c : ℕ) (ep : p ≡ rowSpot + phaseSpot j) (ec : c ≡ rowSpot + clockSpot j) where
@@ -162,6 +142,21 @@ module _ (X : Setup) (a b : List ℕ) (j : ℕ) (h : Both X a b) (own : ownerIn 
           between 0 (X .phases - r)
           (shown-back X fair j (labelOf a .row) (labelOf b .row) (omega (arith, l, lag-is))
           ∙ ap (λ u. near X (labelOf a .row j .clock) (record { up = 0; down = X .phases - u })) lag-is)
+
+-- what the way asks, whatever the limits
+pub ready : (s : SetupNumbers) (l a b : List ℕ) (j : ℕ) → Both (setupWith s l) a b → ownerIn (readStamp (setupWith s l) a) ≡ j → Between s a b j
+ready s l a b j h own =
+    let X = setupWith s l in
+    let p = permitted X (h .fair) in
+    record {
+      phases = omega arith;
+      ahead = omega arith;
+      one = stamp-told X a (labelOf a) (one X a b j h own) .0 .size;
+      two = stamp-told X b (labelOf b) (two X a b j h own) .0 .size;
+      desk = eight X a b j h own;
+      first = phase-below X a b j h own a (one X a b j h own);
+      second = phase-below X a b j h own b (two X a b j h own);
+    }
 
 -- two records as they read, and what is asked of them
 module _ (X : Setup) (e f : Option Label) where

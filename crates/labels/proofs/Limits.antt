@@ -1,139 +1,97 @@
--- The limits that the rows of records are held to, and that what keeps to them reads.
+-- What the rows of records are held to, and that what keeps to it reads.
 -- Assumes nothing.
-use Prim.Native.Nat.{ℕ, _+_, _-_, _/_, _%_, _≤_, _<_}
+use Prim.Native.Nat.{ℕ, _+_, _≤_, _<_}
 use mathlib.Core.Path.{_≡_, refl, sym, ap, _∙_}
 use mathlib.Core.Bool.{Bool, true, false, _&&_, true≢false}
+use mathlib.Core.Logic.{_⊎_, inl, inr}
 use mathlib.Core.Option.{none, some}
 use mathlib.Core.List.{List, [], _∷_}
-use mathlib.Core.Logic.{⊎-elim}
 use native.Mathlib.Omega.{arith}
-use borrow.Author.Tests.{eq-eqb, ne-eqb, eqb-true, ltb-true, ltb-false, lt-ltb, le-ltb, leb-true, leb-false, le-leb}
-use lib.Dec.{ltb, leb, eqb}
-use lib.ListN.{length}
-use Rattle.tools.specs.Tests.{pick, allOf}
-use Rattle.tools.specs.Lists.{byte, tab}
-use Rattle.tools.proofs.Tests.{eq-or-ne, pick-ap, and-true-l, and-true-r, alike, same-by, each, all-at}
-use Rattle.tools.proofs.Lists.{tab-at, tab-same}
+use borrow.Author.Tests.{eq-eqb, ne-eqb, eqb-true, ltb-true, ltb-false, lt-ltb}
+use lib.Dec.{ltb, eqb}
+use lib.ListN.{length, set}
+use Rattle.tools.specs.Tests.{pick, allOf, allBelow}
+use Rattle.tools.specs.Lists.{byte}
+use Rattle.tools.specs.Tables.{put}
+use Rattle.tools.proofs.Tests.{eq-or-ne, and-true-l, and-true-r, below-one, same-by, each}
+use Rattle.tools.proofs.Lists.{tab-at}
 use Rattle.ring.specs.Phases.{Pair}
-use Rattle.rules.specs.declared.Setup.{Setup}
+use Rattle.rules.specs.Setups.{Setup, limit}
 use Rattle.rules.specs.Numbers.{BadStamp, number}
-use Rattle.rules.specs.Model.{zeros}
+use Rattle.rules.specs.Model.{Row}
 use Rattle.rules.specs.Replies.{phaseSpot, clockSpot, rowByte, rowBytes}
-use Rattle.rules.proofs.RowBytes.{row-phase, row-clock}
+use Rattle.rules.proofs.RowBytes.{row-phase, row-clock, rows-alike}
+use Rattle.book.proofs.Rows.{set-pair}
 use Rattle.book.specs.Stamps.{labelOf, pairReads, readOk, readStamp}
 use Rattle.labels.specs.declared.Owner.the-variants.{Of, Refused}
-use Rattle.labels.specs.Limits.{lastOf, lastRow, Lasts, rowReads, headReads}
+use Rattle.labels.specs.Limits.{capped, countRow, Counts, rowReads, headReads}
 use Rattle.labels.specs.Asked.{ownerRead}
-use Rattle.labels.proofs.Records.{pair-below, Clauses, read-clauses, clauses-read}
+use Rattle.labels.proofs.Records.{Clauses, read-clauses, clauses-read}
 
--- the lesser of two numbers, as `least` tells it
-abbrev pub lesser : ℕ → ℕ → ℕ
-lesser a b = pick (ltb a b) a b
-
--- the most that a byte can be: of eight desks that are there, and of eight that are not
-abbrev pub most : List ℕ
-most =
-    255 ∷ 255 ∷ 255 ∷ 255 ∷ 255 ∷ 255 ∷ 255 ∷ 255 ∷ 0 ∷ 0 ∷ 0 ∷ 0 ∷ 0 ∷ 0 ∷ 0 ∷ 0 ∷ []
-
-most-at : (i : ℕ) → i < 16 → byte most i ≡ pick (ltb i 8) 255 0
-unfolding tab
-most-at i l = tab-at 16 (λ i. pick (ltb i 8) 255 0) i l
-
-last-byte : (n : ℕ) → lastOf n ≤ 255
-unfolding lastOf
-last-byte n = go (ltb 255 n) refl
+-- a byte is below a count exactly where it is below the cap of it
+below-cap : (v n : ℕ) → v < 256 → ltb v (capped n) ≡ ltb v n
+unfolding capped
+below-cap v n b = go (ltb 256 n) refl
   where
-    go : (t : Bool) → ltb 255 n ≡ t → pick t 255 (n - 1) ≤ 255
-    go true e = omega arith
-    go false e = let l : n ≤ 255 = ltb-false 255 n e in omega arith
+    go : (t : Bool) → ltb 256 n ≡ t → ltb v (pick t 256 n) ≡ ltb v n
+    go true e = let l : 256 < n = ltb-true 256 n e in rw (lt-ltb v 256 (omega arith), lt-ltb v n (omega arith))
+    go false e = refl
 
-least-most : (v i : ℕ) → v ≤ 255 → i < 16 → lesser v (byte most i) ≡ pick (ltb i 8) v 0
-least-most v i l m = ap (lesser v) (most-at i m) ∙ go (ltb i 8)
-  where
-    full : (u : Bool) → ltb v 255 ≡ u → pick u v 255 ≡ v
-    full true e = refl
-    full false e = let h : 255 ≤ v = ltb-false v 255 e in omega arith
-
-    go : (t : Bool) → lesser v (pick t 255 0) ≡ pick t v 0
-    go true = full (ltb v 255) refl
-    go false = rw (le-ltb v 0 (omega arith))
-
-module _ (X : Setup) where
-  -- where the desks of the setup begin
-  there : (j : ℕ) → j < 8 → ltb (8 - X .desks + j) 8 ≡ ltb j (X .desks)
-  there j l = same-by (8 - X .desks + j) 8 j (X .desks) (λ h. omega arith) (λ h. omega arith)
-
-  last-there : (n j : ℕ) → j < 8 → lesser (lastOf n) (byte most (8 - X .desks + j)) ≡ pick (ltb j (X .desks)) (lastOf n) 0
-  last-there n j l =
-      least-most (lastOf n) (8 - X .desks + j) (last-byte n) (omega arith) ∙ ap (λ (t : Bool). pick t (lastOf n) 0) (there j l)
-
-  -- the largest number at place c of a row
-  last-at : (c : ℕ) → c < 16
-      → lesser (byte (lastOf (X .phases) ∷ lastOf (X .clocks) ∷ []) (c % 2)) (byte most (8 - X .desks + c / 2)) ≡ rowByte (lastRow X) c
-  unfolding rowByte
-  last-at c l =
-      let d : c / 2 < 8 = omega arith in
-      let t = ltb (c / 2) (X .desks) in
-      ⊎-elim (λ (e : c % 2 ≡ 0). rw e (last-there (X .phases) (c / 2) d ∙ sym (pick-ap (λ (q : Pair). q .phase) t _ _)))
-      (λ (n : c % 2 ≡ 0 → ⊥).
-      let e : c % 2 ≡ 1 = omega arith in
-      rw e (last-there (X .clocks) (c / 2) d ∙ sym (pick-ap (λ (q : Pair). q .clock) t _ _))) (eq-or-ne (c % 2) 0)
-
-  pub lasts-are : tab 0 16
-      (λ c. lesser (byte (lastOf (X .phases) ∷ lastOf (X .clocks) ∷ []) (c % 2)) (byte most (8 - X .desks + c / 2)))
-      ≡ rowBytes (lastRow X)
-  unfolding rowBytes
-  lasts-are = tab-same 16 _ (rowByte (lastRow X)) last-at
-
--- a byte is at most the largest number exactly where it is below the count
-up-to : (v n : ℕ) → v < 256 → 0 < n → leb v (lastOf n) ≡ ltb v n
-unfolding lastOf
-up-to v n b h = go (ltb 255 n) refl
-  where
-    go : (t : Bool) → ltb 255 n ≡ t → leb v (pick t 255 (n - 1)) ≡ ltb v n
-    go true e = let l : 255 < n = ltb-true 255 n e in rw (le-leb v 255 (omega arith), lt-ltb v n (omega arith))
-    go false e =
-        alike (leb v (n - 1)) (ltb v n) (λ q. let l : v ≤ n - 1 = leb-true v (n - 1) q in lt-ltb v n (omega arith))
-        (λ q. let l : n - 1 < v = leb-false v (n - 1) q in le-ltb v n (omega arith))
-
-up-to-none : (v : ℕ) → leb v 0 ≡ eqb v 0
-up-to-none v =
-    alike (leb v 0) (eqb v 0) (λ q. let l : v ≤ 0 = leb-true v 0 q in eq-eqb v 0 (omega arith))
-    (λ q. let l : 0 < v = leb-false v 0 q in ne-eqb v 0 (λ z. omega arith))
-
--- the pair of desk j, by its two bytes
-module _ (X : Setup) (l : List ℕ) (h : Lasts X l) (j : ℕ) (m : j < 8) where
-  phase-last : byte l (phaseSpot j) ≡ lastRow X j .phase
-  unfolding rowBytes
-  phase-last =
-      ap (λ (b : List ℕ). byte b (phaseSpot j)) (h .bytes) ∙ tab-at 16 (rowByte (lastRow X)) (phaseSpot j) (omega arith)
-      ∙ row-phase (lastRow X) j
-
-  clock-last : byte l (clockSpot j) ≡ lastRow X j .clock
-  unfolding rowBytes
-  clock-last =
-      ap (λ (b : List ℕ). byte b (clockSpot j)) (h .bytes) ∙ tab-at 16 (rowByte (lastRow X)) (clockSpot j) (omega arith)
-      ∙ row-clock (lastRow X) j
-
-  pub pair-up-to : (v t : ℕ) → v < 256 → t < 256
-      → (leb v (byte l (phaseSpot j)) && leb t (byte l (clockSpot j))) ≡ pairReads X j (record { phase = v; clock = t })
-  unfolding pairReads allOf
-  pair-up-to v t a b = rw (phase-last, clock-last, pairReads) (go (ltb j (X .desks)))
+-- how many numbers each desk has
+module _ (P : ℕ) (ls : List ℕ) where
+  -- those of one desk more
+  pub counts-more : (j p q x y : ℕ) (l : List ℕ) → l ≡ rowBytes (countRow j P ls) → j < 8 → p ≡ phaseSpot j → q ≡ clockSpot j
+      → x ≡ capped P → y ≡ capped (byte ls j) → set (set l p x) q y ≡ rowBytes (countRow (j + 1) P ls)
+  counts-more j p q x y l e m ep eq ex ey =
+      rw (e, ep, eq, ex, ey)
+      (set-pair (countRow j P ls) j m pair ∙ rows-alike (put (countRow j P ls) j pair) (countRow (j + 1) P ls) (λ k n. go k (eq-or-ne k j)))
     where
-      go : (u : Bool)
-          → (leb v (pick u (record { phase = lastOf (X .phases); clock = lastOf (X .clocks) }) (zeros j) .phase)
-          && leb t (pick u (record { phase = lastOf (X .phases); clock = lastOf (X .clocks) }) (zeros j) .clock))
-          ≡ pick u (allOf (ltb v (X .phases) ∷ ltb t (X .clocks) ∷ [])) (allOf (eqb v 0 ∷ eqb t 0 ∷ []))
-      go true = rw (up-to v (X .phases) a (h .phases), up-to t (X .clocks) b (h .clocks))
-      go false = rw (up-to-none v, up-to-none t)
+      pair : Pair
+      pair = record { phase = capped P; clock = capped (byte ls j) }
 
-pub lasts-held : (X : Setup) (l : List ℕ) → l ≡ rowBytes (lastRow X) → (ltb 0 (X .phases) && ltb 0 (X .clocks)) ≡ true → Lasts X l
-lasts-held X l e t =
-    record {
-      bytes = e;
-      phases = ltb-true _ _ (and-true-l (ltb 0 (X .phases)) _ t);
-      clocks = ltb-true _ _ (and-true-r (ltb 0 (X .phases)) (ltb 0 (X .clocks)) t);
-    }
+      go : (k : ℕ) → (k ≡ j) ⊎ (k ≡ j → ⊥) → put (countRow j P ls) j pair k ≡ countRow (j + 1) P ls k
+      go k (inl e) = rw (eq-eqb k j e, lt-ltb k (j + 1) (omega arith)) (rw e)
+      go k (inr n) =
+          rw (ne-eqb k j n)
+          (ap (λ (t : Bool). pick {A = Pair} t (record { phase = capped P; clock = capped (byte ls k) }) (record { phase = 1; clock = 1 }))
+          (same-by k j k (j + 1) (λ l. omega arith) (λ l. omega arith)))
+
+  -- no row has more than eight
+  pub counts-all : (n D : ℕ) → n ≡ pick (ltb D 8) D 8 → (n ≤ 8) × (rowBytes (countRow n P ls) ≡ rowBytes (countRow D P ls))
+  counts-all n D e = go (ltb D 8) refl e
+    where
+      go : (t : Bool) → ltb D 8 ≡ t → n ≡ pick t D 8 → (n ≤ 8) × (rowBytes (countRow n P ls) ≡ rowBytes (countRow D P ls))
+      go true l e = let m : D < 8 = ltb-true D 8 l in (omega arith, rw e)
+      go false l e =
+          let m : 8 ≤ D = ltb-false D 8 l in
+          (omega arith, rows-alike (countRow n P ls) (countRow D P ls) (λ j k. rw (lt-ltb j n (omega arith), lt-ltb j D (omega arith))))
+
+-- a pair of bytes is below them exactly where it reads
+pub pair-counted : (X : Setup) (l : List ℕ) (j v t : ℕ) → Counts X l → j < 8 → v < 256 → t < 256
+    → (ltb v (byte l (phaseSpot j)) && ltb t (byte l (clockSpot j))) ≡ pairReads X j (record { phase = v; clock = t })
+unfolding rowBytes pairReads allOf
+pair-counted X l j v t e m a b =
+    rw (
+      e,
+      tab-at 16 (rowByte row) (phaseSpot j) (omega arith),
+      tab-at 16 (rowByte row) (clockSpot j) (omega arith),
+      row-phase row j,
+      row-clock row j,
+      pairReads,
+    )
+    (go (ltb j (X .desks)))
+  where
+    row : Row
+    row = countRow (X .desks) (X .phases) (X .limits)
+
+    counts : Pair
+    counts = record { phase = capped (X .phases); clock = capped (limit X j) }
+
+    go : (u : Bool)
+        → (ltb v (pick u counts (record { phase = 1; clock = 1 }) .phase) && ltb t (pick u counts (record { phase = 1; clock = 1 }) .clock))
+        ≡ pick u (allOf (ltb v (X .phases) ∷ ltb t (limit X j) ∷ [])) (allOf (eqb v 0 ∷ eqb t 0 ∷ []))
+    go true = rw (below-cap v (X .phases) a, below-cap t (limit X j) b)
+    go false = rw (below-one v, below-one t)
 
 -- a record reads exactly where its row does and what stands before it
 module _ (X : Setup) (r : List ℕ) where
@@ -141,26 +99,21 @@ module _ (X : Setup) (r : List ℕ) where
   unfolding rowReads headReads
   part-clauses a b =
       record {
-        size = eqb-true _ _ (each _ a 0);
+        size = eqb-true _ _ (and-true-l (eqb (length r) 20) _ a);
         mark0 = eqb-true _ _ (each _ b 0);
         mark1 = eqb-true _ _ (each _ b 1);
         owner = ltb-true _ _ (each _ b 2);
         desks = eqb-true _ _ (each _ b 3);
-        pairs = each _ a 2;
+        pairs = and-true-r (eqb (length r) 20) (allBelow 8 (λ j. pairReads X j (labelOf r .row j))) a;
       }
 
-  -- the owner is a desk, whose pair shows that there is a phase and a clock value
   clauses-parts : Clauses X r → (rowReads X r && headReads (X .desks) r) ≡ true
   unfolding rowReads headReads allOf
   clauses-parts h =
-      let q = all-at (λ j. pairReads X j (labelOf r .row j)) 8 0 (omega arith) (h .pairs) in
-      let p = pair-below X 0 (labelOf r .row 0) q (omega arith) in
       rw (
         rowReads,
         headReads,
         eq-eqb _ _ (h .size),
-        lt-ltb 0 (X .phases) (omega arith),
-        lt-ltb 0 (X .clocks) (omega arith),
         h .pairs,
         eq-eqb _ _ (h .mark0),
         eq-eqb _ _ (h .mark1),
@@ -183,7 +136,7 @@ module _ (X : Setup) (r : List ℕ) where
 
   pub row-size : rowReads X r ≡ true → length r ≡ 20
   unfolding rowReads
-  row-size h = eqb-true _ _ (each _ h 0)
+  row-size h = eqb-true _ _ (and-true-l (eqb (length r) 20) _ h)
 
   -- so its owner is told, or it is refused
   pub who-is : (t : Bool) → (rowReads X r && headReads (X .desks) r) ≡ t

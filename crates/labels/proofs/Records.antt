@@ -16,7 +16,7 @@ use Rattle.tools.specs.Lists.{byte, tab}
 use Rattle.tools.proofs.Tests.{each, all-at, all-in, lt-or-le}
 use Rattle.tools.proofs.Lists.{length-tab, tab-at, is-tab}
 use Rattle.ring.specs.Phases.{Pair}
-use Rattle.rules.specs.declared.Setup.{Setup}
+use Rattle.rules.specs.Setups.{Setup, limit}
 use Rattle.rules.specs.Model.{Label, zeros}
 use Rattle.rules.specs.Replies.{rowByte, rowBytes}
 use Rattle.book.specs.Layout.{rowSpot, phaseSpot, clockSpot, markedByte}
@@ -43,10 +43,10 @@ row-byte r e c l =
 
 -- a pair that reads
 module _ (X : Setup) (j : ℕ) (q : Pair) (h : pairReads X j q ≡ true) where
-  pub pair-below : j < X .desks → (q .phase < X .phases) × (q .clock < X .clocks)
+  pub pair-below : j < X .desks → (q .phase < X .phases) × (q .clock < limit X j)
   unfolding pairReads
   pair-below l =
-      let p : allOf (ltb (q .phase) (X .phases) ∷ ltb (q .clock) (X .clocks) ∷ []) ≡ true
+      let p : allOf (ltb (q .phase) (X .phases) ∷ ltb (q .clock) (limit X j) ∷ []) ≡ true
       = rw (pairReads, lt-ltb j (X .desks) l) at h in
       (ltb-true _ _ (each _ p 0), ltb-true _ _ (each _ p 1))
 

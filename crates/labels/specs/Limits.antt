@@ -1,11 +1,11 @@
 -- What the bytes of a stamp record are held to, in the order in which they are read.
 -- Assumes nothing.
---   lastOf n        the largest of n numbers from 0 on, as far as a byte goes; 0 where there are none
---   lastRow X       the largest phase and clock of each desk under the setup X, zero where there is no desk
---   Lasts X l       l has the bytes of that row, and X has a phase and a clock value
---   rowReads X r    the bytes r have a record's length, X has a phase and a clock value, and every pair is in range
+--   capped n        n, as far as the numbers of a byte go: 256 of them
+--   countRow D P ls how many phases and clocks each of D desks has, by P phases and the limits ls; where there is no desk one, 0 alone
+--   Counts X l      l has the numbers of that row under the setup X
+--   rowReads X r    the bytes r have a record's length, and every pair is in range
 --   headReads D r   the mark, the owner and the number of desks of the record r are those of a setup with D desks
-use Prim.Native.Nat.{ℕ, _-_, _<_}
+use Prim.Native.Nat.{ℕ}
 use mathlib.Core.Path.{_≡_}
 use mathlib.Core.Bool.{Bool, _&&_}
 use mathlib.Core.List.{List, [], _∷_}
@@ -13,30 +13,23 @@ use lib.Dec.{ltb, eqb}
 use lib.ListN.{length}
 use Rattle.tools.specs.Tests.{pick, allOf, allBelow}
 use Rattle.tools.specs.Lists.{byte}
-use Rattle.rules.specs.declared.Setup.{Setup}
-use Rattle.rules.specs.Model.{Row, zeros, limit}
+use Rattle.rules.specs.Setups.{Setup}
+use Rattle.rules.specs.Model.{Row}
 use Rattle.rules.specs.Replies.{rowBytes}
 use Rattle.book.specs.Layout.{recordSize, seats, tagASpot, tagBSpot}
 use Rattle.book.specs.Stamps.{stampMark0, stampMark1, labelOf, pairReads}
 
-unfoldable pub lastOf : ℕ → ℕ
-lastOf n = pick (ltb 255 n) 255 (n - 1)
+unfoldable pub capped : ℕ → ℕ
+capped n = pick (ltb 256 n) 256 n
 
-abbrev pub lastRow : Setup → Row
-lastRow X j = pick (ltb j (X .desks)) (record { phase = lastOf (X .phases); clock = lastOf (limit X j) }) (zeros j)
+abbrev pub countRow : ℕ → ℕ → List ℕ → Row
+countRow D P ls j = pick (ltb j D) (record { phase = capped P; clock = capped (byte ls j) }) (record { phase = 1; clock = 1 })
 
-pub record Lasts (X : Setup) (l : List ℕ) : Type 0 where
-  pub bytes : l ≡ rowBytes (lastRow X)
-  pub phases : 0 < X .phases
-  pub clocks : 0 < X .clocks
+abbrev pub Counts : Setup → List ℕ → Type 0
+Counts X l = l ≡ rowBytes (countRow (X .desks) (X .phases) (X .limits))
 
 unfoldable pub rowReads : Setup → List ℕ → Bool
-rowReads X r =
-    allOf
-    (eqb (length r) recordSize
-    ∷ (ltb 0 (X .phases) && ltb 0 (X .clocks))
-    ∷ allBelow seats (λ j. pairReads X j (labelOf r .row j))
-    ∷ [])
+rowReads X r = eqb (length r) recordSize && allBelow seats (λ j. pairReads X j (labelOf r .row j))
 
 unfoldable pub headReads : ℕ → List ℕ → Bool
 headReads D r =

@@ -14,7 +14,7 @@ use mathlib.Core.List.{List, []}
 use Prim.Native.Nat.{ℕ, _<_}
 use lib.ListN.{replicate}
 use denote.Ref.{ptr, now}
-use Rattle.rules.specs.declared.Setup.{Setup}
+use Rattle.rules.specs.Setups.{Setup}
 use Rattle.rules.specs.Numbers.{BadStamp, number}
 use Rattle.rules.specs.Model.{Label, stamp, Answer, refusal, accepted}
 use Rattle.rules.specs.Labels.{newestOff, Which, First, Second, Neither}

@@ -1,21 +1,26 @@
 // Stamp records: twenty bytes that tell a stamp, read and written; before, compare and newest of two of them.
 ghost use mathlib.Core.Path.{_≡_};
-ghost use Prim.Native.Nat.{_-_, _<_};
+ghost use mathlib.Core.Bool.{true};
+ghost use Prim.Native.Nat.{ℕ, _<_};
+ghost use mathlib.Core.List.{List};
 ghost use lib.Dec.{ltb};
 ghost use lib.ListN.{length};
 ghost use Rattle.tools.specs.Tests.{pick};
+ghost use Rattle.tools.specs.Lists.{byte};
+ghost use Rattle.rules.specs.Setups.{Setup, setupWith};
 ghost use Rattle.rules.specs.Labels.{ownerIn};
 ghost use Rattle.rules.specs.Replies.{rowBytes, rowOf, toldSays, comparedSays};
 ghost use Rattle.book.specs.Layout.{recordSize, seats};
 ghost use Rattle.book.specs.Answers.{beforeOf, compareOf};
 ghost use Rattle.book.specs.Stamps.{writeStamp, labelOf, pairReads, readStamp};
-ghost use Rattle.labels.specs.Limits.{lastOf, lastRow, Lasts, rowReads, headReads};
+ghost use Rattle.labels.specs.Limits;
+ghost use Rattle.labels.specs.Limits.{countRow, Counts, rowReads, headReads};
 ghost use Rattle.labels.specs.Records.{readAs, readSays, rowBeside, newestOf, HandedBack};
-ghost use Rattle.labels.specs.Asked.{ownerRead, refusalIn, Both, WayRead, Asked};
+ghost use Rattle.labels.specs.Asked.{ownerRead, refusalIn, Both, Between, WayRead, Asked};
 use comparing::Way;
 use rules::Compared;
 use rules::Relation;
-use rules::Setup;
+use rules::SetupNumbers;
 use rules::Stamp;
 use rules::Told;
 
@@ -36,77 +41,83 @@ pub struct Reading {
     pub row: [u8; 16],
 }
 
-// The largest of so many numbers from 0 on, as far as a byte goes; 0 where there are none.
-fn last_of(count: usize) -> u8
-    ensures { λ r. ⌜ r ≡ lastOf count ⌝ }
+// So many, as far as the numbers of a byte go.
+fn capped(count: usize) -> u16
+    ensures { λ r. ⌜ r ≡ Limits.capped count ⌝ }
 {
-    if 255 < count {
-        return 255;
+    if 256 < count {
+        return 256;
     }
-    if count == 0 {
-        return 0;
-    }
-    (count - 1) as u8
+    count as u16
 }
 
-// The smaller of two.
-fn least(one: u8, other: u8) -> u8
-    ensures { λ r. ⌜ r ≡ pick (ltb one other) one other ⌝ }
+// The limit of a desk; 0 where the list ends before it.
+fn limit_at(limits: &[usize], desk: usize) -> usize
+    ensures { λ r. ⌜ r ≡ byte (now (limits .entry)) desk ⌝ }
 {
-    if one < other {
-        return one;
-    }
-    other
-}
-
-// How many of the eight desks that a row has room for are not there.
-fn missing(desks: usize) -> usize
-    ensures { λ r. ⌜ r ≡ seats - desks ⌝ }
-{
-    if desks < parts::SEATS {
-        return parts::SEATS - desks;
+    if desk < limits.len() {
+        return limits[desk];
     }
     0
 }
 
-// The largest phase and clock of each desk, 0 where there is none. A desk is looked up, not tested for: so all sixteen are made at once.
-fn lasts_of(setup: Setup) -> [u8; 16]
-    ensures { λ r. ⌜ r ≡ rowBytes (lastRow setup) ⌝ }
+// How many desks there are, as far as a row has room for them.
+fn seated(desks: usize) -> usize
+    ensures { λ r. ⌜ r ≡ pick (ltb desks seats) desks seats ⌝ }
 {
-    // The most that a byte can be, of eight desks that are there and of eight that are not.
-    let most = b"\xff\xff\xff\xff\xff\xff\xff\xff\0\0\0\0\0\0\0\0";
-    let from = missing(setup.desks);
-    let last = [last_of(setup.phases), last_of(setup.clocks)];
-    let mut lasts = [0u8; 16];
-    let mut c: usize = 0;
-    while c < parts::ROW_BYTES {
-        lasts[c] = least(last[c % 2], most[from + c / 2]);
-        c += 1;
+    if desks < parts::SEATS {
+        return desks;
     }
-    lasts
+    parts::SEATS
 }
 
-fn pair_reads(lasts: &[u8; 16], bytes: &[u8], j: usize) -> bool
+// How many phases and clocks each desk has, for the sixteen bytes of a row; 0 alone where there is no desk. Only the desks that are there
+// are gone through, which takes fewer instructions than a test of each of eight.
+fn counts_of(setup: SetupNumbers, limits: &[usize]) -> [u16; 16]
+    ensures { λ r. ⌜ r ≡ rowBytes (countRow (setup .desks) (setup .phases) (now (limits .entry))) ⌝ }
+{
+    let phases = capped(setup.phases);
+    let desks = seated(setup.desks);
+    let mut counts = [1u16; 16];
+    let mut j: usize = 0;
+    while j < desks {
+        let phase = parts::phase_spot(j);
+        let clock = parts::clock_spot(j);
+        counts[phase] = phases;
+        counts[clock] = capped(limit_at(limits, j));
+        j += 1;
+    }
+    counts
+}
+
+// A byte as wide as a count.
+fn number(byte: u8) -> u16
+    ensures { λ r. ⌜ r ≡ byte ⌝ }
+{
+    byte as u16
+}
+
+fn pair_reads(counts: &[u16; 16], bytes: &[u8], j: usize) -> bool
     requires { ⌜ (length (now bytes) ≡ recordSize) × (j < seats) ⌝ }
-    ensures { λ r. ⌜ ((X : Setup) → Lasts X (now (lasts .entry)) → r ≡ pairReads X j (labelOf (now (bytes .entry)) .row j)) ⌝ }
+    ensures { λ r. ⌜ ((X : Setup) → Counts X (now (counts .entry)) → r ≡ pairReads X j (labelOf (now (bytes .entry)) .row j)) ⌝ }
 {
     let phase = parts::phase_spot(j);
     let clock = parts::clock_spot(j);
-    (bytes[parts::ROW + phase] <= lasts[phase]) & (bytes[parts::ROW + clock] <= lasts[clock])
+    (number(bytes[parts::ROW + phase]) < counts[phase])
+        & (number(bytes[parts::ROW + clock]) < counts[clock])
 }
 
-// No pair ends the loop early: so all eight are compared at once. Without a phase or a clock value no row reads.
-fn row_reads(setup: Setup, lasts: &[u8; 16], bytes: &[u8]) -> bool
-    requires { ⌜ now lasts ≡ rowBytes (lastRow setup) ⌝ }
-    ensures { λ r. ⌜ r ≡ rowReads setup (now (bytes .entry)) ⌝ }
+// No pair ends the loop early: so all eight are compared at once.
+fn row_reads(counts: &[u16; 16], bytes: &[u8]) -> bool
+    ensures { λ r. ⌜ ((X : Setup) → Counts X (now (counts .entry)) → r ≡ rowReads X (now (bytes .entry))) ⌝ }
 {
     if bytes.len() != parts::RECORD_BYTES {
         return false;
     }
-    let mut ok = (0 < setup.phases) & (0 < setup.clocks);
+    let mut ok = true;
     let mut j: usize = 0;
     while j < parts::SEATS {
-        ok = ok & pair_reads(lasts, bytes, j);
+        ok = ok & pair_reads(counts, bytes, j);
         j += 1;
     }
     ok
@@ -123,23 +134,24 @@ fn head_reads(desks: usize, bytes: &[u8]) -> bool
 }
 
 // The owner of a record, or its refusal. Whether the row reads is asked apart: each function is then small enough to be put in place.
-fn who_of(setup: Setup, bytes: &[u8], ok: bool) -> Owner
-    requires { ⌜ ok ≡ rowReads setup (now bytes) ⌝ }
-    ensures { λ r. ⌜ r ≡ ownerRead (readStamp setup (now (bytes .entry))) ⌝ }
+fn who_of(desks: usize, bytes: &[u8], ok: bool) -> Owner
+    requires { ⌜ (ok ≡ true → length (now bytes) ≡ recordSize) ⌝ }
+    ensures { λ r. ⌜ ((X : Setup) → X .desks ≡ desks → ok ≡ rowReads X (now (bytes .entry))
+        → r ≡ ownerRead (readStamp X (now (bytes .entry)))) ⌝ }
 {
-    if ok && head_reads(setup.desks, bytes) {
+    if ok && head_reads(desks, bytes) {
         return Owner::Of(bytes[parts::TAG_A]);
     }
     Owner::Refused(rules::BAD_STAMP)
 }
 
 // A record is read into a stamp or refused.
-pub fn read(setup: Setup, bytes: &[u8]) -> Reading
-    ensures { λ x. ⌜ readSays x ≡ readAs (readStamp setup (now (bytes .entry))) ⌝ }
+pub fn read(setup: SetupNumbers, limits: &[usize], bytes: &[u8]) -> Reading
+    ensures { λ x. ⌜ readSays x ≡ readAs (readStamp (setupWith setup (now (limits .entry))) (now (bytes .entry))) ⌝ }
     ensures { λ x. ⌜ rowBeside (x .who) (x .row) ⌝ }
 {
-    let lasts = lasts_of(setup);
-    let who = who_of(setup, bytes, row_reads(setup, &lasts, bytes));
+    let counts = counts_of(setup, limits);
+    let who = who_of(setup.desks, bytes, row_reads(&counts, bytes));
     let Owner::Of(_) = who else {
         return Reading {
             who: who,
@@ -170,10 +182,11 @@ pub fn record_of(desks: u8, stamp: Stamp) -> [u8; 20]
 
 // The way from the record of an owner to another, by their phases alone: r is (phase in the second minus phase in the first)
 // modulo P, and d is r if r <= n-1, else r-P.
-fn way(setup: Setup, owner: u8, first: &[u8], second: &[u8]) -> Way
-    requires { ⌜ Both setup (now first) (now second) ⌝ }
-    requires { ⌜ ownerIn (readStamp setup (now first)) ≡ owner ⌝ }
-    ensures { λ w. ⌜ WayRead setup (now (first .entry)) (now (second .entry)) owner w ⌝ }
+fn way(setup: SetupNumbers, owner: u8, first: &[u8], second: &[u8]) -> Way
+    requires { ⌜ Between setup (now first) (now second) owner ⌝ }
+    ensures { λ w. ⌜ ((l : List ℕ) → Both (setupWith setup l) (now (first .entry)) (now (second .entry))
+        → ownerIn (readStamp (setupWith setup l) (now (first .entry))) ≡ owner
+        → WayRead (setupWith setup l) (now (first .entry)) (now (second .entry)) owner w) ⌝ }
 {
     let desk = tools::wide(owner);
     let phase = parts::ROW + parts::phase_spot(desk);
@@ -217,18 +230,18 @@ fn refusal_of(who: Owner) -> u8
     }
 }
 
-fn owners_of(setup: Setup, first: &[u8], second: &[u8]) -> Owners
-    ensures { λ q. ⌜ Asked setup (now (first .entry)) (now (second .entry)) q ⌝ }
+fn owners_of(setup: SetupNumbers, limits: &[usize], first: &[u8], second: &[u8]) -> Owners
+    ensures { λ q. ⌜ Asked (setupWith setup (now (limits .entry))) (now (first .entry)) (now (second .entry)) q ⌝ }
 {
-    if !setups::permits(setup) {
+    if !setups::permits(setup, limits) {
         return Owners::Refused(rules::BAD_SETUP);
     }
-    let lasts = lasts_of(setup);
-    let one = who_of(setup, first, row_reads(setup, &lasts, first));
+    let counts = counts_of(setup, limits);
+    let one = who_of(setup.desks, first, row_reads(&counts, first));
     let Owner::Of(owner) = one else {
         return Owners::Refused(refusal_of(one));
     };
-    let two = who_of(setup, second, row_reads(setup, &lasts, second));
+    let two = who_of(setup.desks, second, row_reads(&counts, second));
     let Owner::Of(other) = two else {
         return Owners::Refused(refusal_of(two));
     };
@@ -236,10 +249,10 @@ fn owners_of(setup: Setup, first: &[u8], second: &[u8]) -> Owners
 }
 
 // Before, off the book.
-pub fn before(setup: Setup, first: &[u8], second: &[u8]) -> Told
-    ensures { λ r. ⌜ toldSays r ≡ beforeOf setup (now (first .entry)) (now (second .entry)) ⌝ }
+pub fn before(setup: SetupNumbers, limits: &[usize], first: &[u8], second: &[u8]) -> Told
+    ensures { λ r. ⌜ toldSays r ≡ beforeOf (setupWith setup (now (limits .entry))) (now (first .entry)) (now (second .entry)) ⌝ }
 {
-    let owners = owners_of(setup, first, second);
+    let owners = owners_of(setup, limits, first, second);
     match owners {
         Owners::Refused(n) => Told::Refused(n),
         Owners::Of { owner, other } => {
@@ -250,10 +263,10 @@ pub fn before(setup: Setup, first: &[u8], second: &[u8]) -> Told
 }
 
 // Compare, off the book.
-pub fn compare(setup: Setup, first: &[u8], second: &[u8]) -> Compared
-    ensures { λ r. ⌜ comparedSays r ≡ compareOf setup (now (first .entry)) (now (second .entry)) ⌝ }
+pub fn compare(setup: SetupNumbers, limits: &[usize], first: &[u8], second: &[u8]) -> Compared
+    ensures { λ r. ⌜ comparedSays r ≡ compareOf (setupWith setup (now (limits .entry))) (now (first .entry)) (now (second .entry)) ⌝ }
 {
-    let owners = owners_of(setup, first, second);
+    let owners = owners_of(setup, limits, first, second);
     match owners {
         Owners::Refused(n) => Compared::Refused(n),
         Owners::Of { owner, other } => {
@@ -265,10 +278,16 @@ pub fn compare(setup: Setup, first: &[u8], second: &[u8]) -> Compared
 }
 
 // Newest: of two lent records the one that is after the other, the first if they are the same, else an empty part of the first.
-pub fn newest<'a>(setup: Setup, first: &'a [u8], second: &'a [u8]) -> &'a [u8]
-    ensures { λ r. ⌜ HandedBack (newestOf setup (now (first .entry)) (now (second .entry))) (first .entry) (second .entry) r ⌝ }
+pub fn newest<'a>(
+    setup: SetupNumbers,
+    limits: &[usize],
+    first: &'a [u8],
+    second: &'a [u8],
+) -> &'a [u8]
+    ensures { λ r. ⌜ HandedBack (newestOf (setupWith setup (now (limits .entry))) (now (first .entry)) (now (second .entry)))
+        (first .entry) (second .entry) r ⌝ }
 {
-    let says = compare(setup, first, second);
+    let says = compare(setup, limits, first, second);
     let Compared::Is(relation) = says else {
         return &first[0..0];
     };

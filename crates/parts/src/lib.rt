@@ -3,11 +3,12 @@ ghost use mathlib.Core.Path.{_≡_};
 ghost use Prim.Native.Nat.{_<_, _≤_};
 ghost use lib.ListN.{length};
 ghost use Rattle.tools.specs.Lists.{byte};
+ghost use Rattle.rules.specs.Setups.{setupWith};
 ghost use Rattle.book.specs.Layout.{bookSize, recordSize, rowSize, records, seats, phaseSpot, clockSpot};
-ghost use Rattle.book.specs.Layout.{fields, setupOf, mark0, mark1};
+ghost use Rattle.book.specs.Layout.{fields, limitsOf, setupOf, mark0, mark1};
 ghost use Rattle.book.specs.Layout;
 ghost use Rattle.book.specs.Stamps.{filled};
-use rules::Setup;
+use rules::SetupNumbers;
 
 pub const HEAD_BYTES: usize = 16;
 
@@ -34,7 +35,7 @@ pub const BOOK_BYTES: usize = HEAD_BYTES + RECORDS * RECORD_BYTES;
 // A record is a mark of two bytes, two tags and a row.
 pub const TAG_A: usize = 2;
 
-// A mail place's addressee; filler in a seat and a slot.
+// A seat's limit, a mail place's addressee; filler in a slot.
 pub const TAG_B: usize = 3;
 
 pub const ROW: usize = 4;
@@ -49,7 +50,8 @@ pub const DESKS_AT: usize = 2;
 
 pub const PHASES_AT: usize = 3;
 
-pub const CLOCKS_AT: usize = 4;
+// Filler, between P and M.
+pub const BLANK_AT: usize = 4;
 
 const SEAT_LAG_AT: usize = 5;
 
@@ -59,7 +61,7 @@ const BACK_AT: usize = 7;
 
 const AHEAD_AT: usize = 8;
 
-// The filler of the header, to its end.
+// The filler behind them, to the header's end.
 pub const SPARE_AT: usize = 9;
 
 pub const SPARE_BYTES: usize = HEAD_BYTES - SPARE_AT;
@@ -97,14 +99,14 @@ pub fn clock_spot(j: usize) -> usize
     1 + 2 * j
 }
 
-pub fn setup_of(book: &[u8]) -> Setup
+// The setup numbers in the header; the limits stand in the seats.
+pub fn numbers_of(book: &[u8]) -> SetupNumbers
     requires { ⌜ length (now book) ≡ bookSize ⌝ }
-    ensures { λ r. ⌜ r ≡ setupOf (now (book .entry)) ⌝ }
+    ensures { λ r. ⌜ setupWith r (limitsOf (now (book .entry))) ≡ setupOf (now (book .entry)) ⌝ }
 {
-    Setup {
+    SetupNumbers {
         desks: tools::wide(book[DESKS_AT]),
         phases: tools::wide(book[PHASES_AT]),
-        clocks: tools::wide(book[CLOCKS_AT]),
         seatLag: tools::wide(book[SEAT_LAG_AT]),
         shelfLag: tools::wide(book[SHELF_LAG_AT]),
         back: tools::wide(book[BACK_AT]),
@@ -138,13 +140,6 @@ pub fn shelf_lag_of(book: &[u8]) -> usize
     ensures { λ r. ⌜ r ≡ setupOf (now (book .entry)) .shelfLag ⌝ }
 {
     tools::wide(book[SHELF_LAG_AT])
-}
-
-pub fn clocks_of(book: &[u8]) -> usize
-    requires { ⌜ length (now book) ≡ bookSize ⌝ }
-    ensures { λ r. ⌜ r ≡ setupOf (now (book .entry)) .clocks ⌝ }
-{
-    tools::wide(book[CLOCKS_AT])
 }
 
 pub fn byte_at(book: &[u8], k: usize, c: usize) -> u8

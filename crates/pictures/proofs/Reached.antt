@@ -14,7 +14,7 @@ use lib.Dec.{ltb, eqb}
 use Rattle.tools.specs.Tests.{pick}
 use Rattle.tools.proofs.Tests.{lt-or-le, eq-or-ne}
 use Rattle.ring.specs.Phases.{Gap, laterBy}
-use Rattle.rules.specs.declared.Setup.{Setup}
+use Rattle.rules.specs.Setups.{Setup}
 use Rattle.rules.specs.Model.{reachBack, near, isOut}
 use Rattle.pictures.specs.Froms.{mostBy}
 

@@ -15,7 +15,7 @@ use lib.ListN.{length}
 use Rattle.tools.specs.Tests.{pick}
 use Rattle.ring.specs.Phases.{isLater}
 use Rattle.rules.specs.Model.{byIn, rowIn, reachBack, isOut, gapFrom, chosen}
-use Rattle.rules.specs.declared.Setup.{Setup}
+use Rattle.rules.specs.Setups.{Setup}
 use Rattle.rules.specs.Calls.{ringOf}
 use Rattle.rules.proofs.Setups.{permitted}
 use Rattle.book.specs.Layout.{shelfFrom, setupOf, rowAt}

@@ -7,11 +7,12 @@ ghost use lib.Dec.{eqb};
 ghost use lib.ListN.{length};
 ghost use Rattle.tools.specs.Tests.{pick, any};
 ghost use Rattle.tools.specs.Lists.{byte};
+ghost use Rattle.rules.specs.Setups.{setupWith};
 ghost use Rattle.rules.specs.Model;
 ghost use Rattle.rules.specs.Model.{noSlot};
 ghost use Rattle.rules.specs.Calls.{on};
 ghost use Rattle.rules.specs.Replies.{picturedSays};
-ghost use Rattle.book.specs.Layout.{bookSize, setupOf};
+ghost use Rattle.book.specs.Layout.{bookSize, limitsOf, setupOf};
 ghost use Rattle.book.specs.Sound.{sound};
 ghost use Rattle.book.specs.Answers.{answerTo};
 ghost use Rattle.book.specs.Numbers.{tablesOf};
@@ -19,7 +20,7 @@ ghost use Rattle.refusals.specs.First.{listNumber};
 ghost use Rattle.pictures.specs.Froms.{mostBy, fromOf, lagTo, beyond, moreTo, Table, Ready, Places};
 ghost use Rattle.pictures.specs.Pairs.{PairsOf, Pairs};
 use rules::Pictured;
-use rules::Setup;
+use rules::SetupNumbers;
 
 // What all ways from one stamp share: its owner, the owner's phase, how far its own pair lags and the clock there, and the least and the
 // largest lag of another stamp's pair that is within reach.
@@ -81,8 +82,8 @@ fn most(up: u8, back: usize) -> u8
     255
 }
 
-fn from_of(book: &[u8], setup: Setup, slot: usize) -> From
-    requires { ⌜ (length (now book) ≡ bookSize) × (sound (now book) ≡ true) × (setup ≡ setupOf (now book)) ⌝ }
+fn from_of(book: &[u8], setup: SetupNumbers, slot: usize) -> From
+    requires { ⌜ (length (now book) ≡ bookSize) × (sound (now book) ≡ true) × (setupWith setup (limitsOf (now book)) ≡ setupOf (now book)) ⌝ }
     requires { ⌜ noSlot (tablesOf (now book)) slot ≡ false ⌝ }
     ensures { λ r. ⌜ r ≡ fromOf (now (book .entry)) slot ⌝ }
 {
@@ -107,7 +108,7 @@ fn froms_of(book: &[u8], slots: &[usize]) -> [u8; 48]
     requires { ⌜ Ready (now book) (now slots) ⌝ }
     ensures { λ r. ⌜ Table (now (book .entry)) (now (slots .entry)) (length (now (slots .entry))) r ⌝ }
 {
-    let setup = parts::setup_of(book);
+    let setup = parts::numbers_of(book);
     let mut froms = [0u8; 48];
     let mut i: usize = 0;
     while i < slots.len() {

@@ -14,7 +14,7 @@ use Rattle.tools.specs.Reasons.{ifDone}
 use Rattle.tools.proofs.Reasons.{if-undone}
 use Rattle.tools.proofs.Tests.{not-off}
 use Rattle.ring.specs.Phases.{Pair}
-use Rattle.rules.specs.declared.Setup.{Setup}
+use Rattle.rules.specs.Setups.{Setup, limit}
 use Rattle.rules.specs.declared.Stamp.{Stamp}
 use Rattle.rules.specs.declared.Stamped.{Stamped}
 use Rattle.rules.specs.declared.Posted.{Posted}
@@ -27,12 +27,13 @@ use Rattle.rules.specs.Calls.{on, ringOf}
 use Rattle.rules.specs.Replies.{rowBytes, rowOf, slotIn, eventSays, stampedSays, postedSays, blank, Beside, BesideLearnt, BesidePost}
 use Rattle.rules.proofs.Accepted.{no-local, no-send, no-receive, no-reset}
 use lib.ListN.{length}
-use Rattle.book.specs.Layout.{bookSize, seats, shelfFrom, mailFrom, setupOf, Holds, post}
+use Rattle.book.specs.Layout.{bookSize, seats, shelfFrom, mailFrom, tagBSpot, Record, spot, setupOf, Holds, post}
 use Rattle.book.specs.Sound.{sound}
 use Rattle.book.specs.Codec.{write}
 use Rattle.book.specs.Answers.{answerTo, bookAfter}
 use Rattle.book.specs.Numbers.{tablesOf, whyOf, numberOf}
-use Rattle.book.proofs.Codec.{decode-holds}
+use Rattle.book.proofs.Bytes.{tagB-is}
+use Rattle.book.proofs.Codec.{record-seat, decode-holds}
 use Rattle.rules.proofs.RowBytes.{Eight, row-of-bytes}
 use Rattle.book.proofs.Puts.{seat-put, mail-put, slot-put}
 use Rattle.book.proofs.Numbers.{doneOn, refused-answer, refused-bytes, ready, accepted-answer, accepted-bytes}
@@ -48,7 +49,7 @@ use Rattle.refusals.specs.declared.Grant.{Grant}
 use Rattle.refusals.specs.Grants.{grantOf}
 use Rattle.refusals.proofs.Grants.{grant-number, grant-slot}
 use Rattle.portal.specs.Freed.{cleared, freeAfter}
-use Rattle.portal.specs.Kept.{keptIn, shelved}
+use Rattle.portal.specs.Kept.{keptIn, rowTaken, shelved}
 
 -- the number n alone, and the bytes b
 abbrev pub Files : List ℕ → Act → ℕ → List ℕ → Type 0
@@ -135,14 +136,23 @@ module _ (s : List ℕ) (c : Act) (e : numberOf s c ≡ 0) (j : ℕ) (l : j < 8)
   abbrev seat-taken : Tables
   seat-taken = record { seat = seated (tablesOf s) j r; mail = mail; shelf = tablesOf s .shelf }
 
-  event-left : (b′ : List ℕ) → b′ ≡ shelved (post b j 1 0 row) j row k → b′ ≡ bookAfter s (on c)
+  abbrev its-limit : ℕ
+  its-limit = limit (setupOf s) j
+
+  -- the seat has its desk's limit already
+  limit-stays : byte b (spot j tagBSpot) ≡ its-limit
+  limit-stays =
+      tagB-is (write (record { setup = setupOf s; tables = posted s mail })) b h j (omega arith)
+      ∙ ap (λ (x : Record). x .tagB) (record-seat (setupOf s) (posted s mail) j l)
+
+  event-left : (b′ : List ℕ) → b′ ≡ shelved (rowTaken b j row) j row k → b′ ≡ bookAfter s (on c)
   event-left b′ eb =
-      eb ∙ (λ i. shelved (post b j 1 0 (er i)) j (er i) (ek i))
-      ∙ accepted-bytes s c e (shelved (post b j 1 0 (rowBytes r)) j (rowBytes r) (slotTo (tablesOf s) q))
+      eb ∙ (λ i. shelved (post b j 1 (limit-stays i) (er i)) j (er i) (ek i))
+      ∙ accepted-bytes s c e (shelved (post b j 1 its-limit (rowBytes r)) j (rowBytes r) (slotTo (tablesOf s) q))
       (subst
       (λ (o : Result). Holds (write (record { setup = setupOf s; tables = o .tables }))
-      (shelved (post b j 1 0 (rowBytes r)) j (rowBytes r) (slotTo (tablesOf s) q))) (sym d)
-      (slot-left (setupOf s) seat-taken (post b j 1 0 (rowBytes r))
+      (shelved (post b j 1 its-limit (rowBytes r)) j (rowBytes r) (slotTo (tablesOf s) q))) (sym d)
+      (slot-left (setupOf s) seat-taken (post b j 1 its-limit (rowBytes r))
       (seat-put (setupOf s) (posted s mail) b h j l (record { started = true; row = r })) j r q room))
 
   event-said : Eight r → accepted (made p j (rowOf row) o (slotIn (keptIn k))) ≡ answerTo s (on c)
@@ -151,7 +161,7 @@ module _ (s : List ℕ) (c : Act) (e : numberOf s c ≡ 0) (j : ℕ) (l : j < 8)
       let ek′ = ap (λ (k : ℕ). slotIn (keptIn k)) ek ∙ slot-said (tablesOf s) q room in
       (λ i. accepted (made p j (er′ i) o (ek′ i))) ∙ ap (λ (o : Result). o .answer) (sym d) ∙ accepted-answer s c e
 
-  event-stamps : p ≡ none → o ≡ none → Eight r → (x : Stamped) (b′ : List ℕ) → x ≡ stamped j row k → b′ ≡ shelved (post b j 1 0 row) j row k
+  event-stamps : p ≡ none → o ≡ none → Eight r → (x : Stamped) (b′ : List ℕ) → x ≡ stamped j row k → b′ ≡ shelved (rowTaken b j row) j row k
       → Stamps s c x b′
   unfolding eventSays
   event-stamps n m z x b′ ex eb =
@@ -165,7 +175,7 @@ module _ (s : List ℕ) (c : Act) (q : Bool) (g : Grant) (e : g ≡ grantOf s c 
   after = put (tablesOf s .seat j .row) j o
 
   seat-stamps : doneOn s c ≡ event (tablesOf s) j after q none none (tablesOf s .mail) → (x : Stamped) (row b : List ℕ)
-      → x ≡ stamped j row (g .slot) → row ≡ rowBytes after → b ≡ shelved (post s j 1 0 row) j row (g .slot) → Stamps s c x b
+      → x ≡ stamped j row (g .slot) → row ≡ rowBytes after → b ≡ shelved (rowTaken s j row) j row (g .slot) → Stamps s c x b
   seat-stamps d x row b ex er eb =
       event-stamps s c (sym (grant-number s c q g e) ∙ z) j (at .eight) after q none none (tablesOf s .mail) d room s
       (decode-holds s (at .whole)) row er (g .slot) (grant-slot s c q g e z) refl refl (seat-put-eight s j (at .eight) o) x b ex eb
@@ -174,7 +184,7 @@ module _ (s : List ℕ) (j : ℕ) (q : Bool) (g : Grant) (e : g ≡ grantOf s (l
   local-ready : (sound s ≡ true) × (whyOf s (local j q) ≡ 0)
   local-ready = ready s (local j q) (sym (grant-number s (local j q) q g e) ∙ z)
 
-  local-clear : (j < byte s 2) × (own (tablesOf s) j .clock + 1 < byte s 4) × Each (λ k. k < 32) (slotFor (tablesOf s) q)
+  local-clear : (j < byte s 2) × (own (tablesOf s) j .clock + 1 < limit (setupOf s) j) × Each (λ k. k < 32) (slotFor (tablesOf s) q)
   local-clear = no-local (ringOf (setupOf s)) (setupOf s) (tablesOf s) j q (local-ready .1)
 
   pub local-grows : Grows s j
@@ -184,7 +194,7 @@ module _ (s : List ℕ) (j : ℕ) (q : Bool) (g : Grant) (e : g ≡ grantOf s (l
   local-seat = (local-grows .at .size, local-grows .at .eight)
 
   pub local-stamps : (x : Stamped) (row b : List ℕ) → x ≡ stamped j row (g .slot) → row ≡ rowBytes (grownRow s j)
-      → b ≡ shelved (post s j 1 0 row) j row (g .slot) → Stamps s (local j q) x b
+      → b ≡ shelved (rowTaken s j row) j row (g .slot) → Stamps s (local j q) x b
   unfolding done
   local-stamps = seat-stamps s (local j q) q g e z j (local-grows .at) _ (local-clear .2) refl
 
@@ -199,7 +209,7 @@ module _ (s : List ℕ) (j : ℕ) (q : Bool) (g : Grant) (e : g ≡ grantOf s (r
   reset-seat = (reset-at .size, reset-at .eight)
 
   pub reset-stamps : (x : Stamped) (row b : List ℕ) → x ≡ stamped j row (g .slot) → row ≡ rowBytes (turnedRow s j)
-      → b ≡ shelved (post s j 1 0 row) j row (g .slot) → Stamps s (reset j q) x b
+      → b ≡ shelved (rowTaken s j row) j row (g .slot) → Stamps s (reset j q) x b
   unfolding done
   reset-stamps =
       seat-stamps s (reset j q) q g e z j reset-at _
@@ -209,7 +219,7 @@ module _ (s : List ℕ) (j p : ℕ) (q : Bool) (g : Grant) (e : g ≡ grantOf s 
   receive-done : numberOf s (receive j p q) ≡ 0
   receive-done = sym (grant-number s (receive j p q) q g e) ∙ z
 
-  receive-clear : (j < byte s 2) × (used (tablesOf s .mail p) ≡ true) × (own (tablesOf s) j .clock + 1 < byte s 4) × (p < 32)
+  receive-clear : (j < byte s 2) × (used (tablesOf s .mail p) ≡ true) × (own (tablesOf s) j .clock + 1 < limit (setupOf s) j) × (p < 32)
       × Each (λ k. k < 32) (slotFor (tablesOf s) q)
   receive-clear = no-receive (ringOf (setupOf s)) (setupOf s) (tablesOf s) j p q (ready s (receive j p q) receive-done .1)
 
@@ -220,7 +230,7 @@ module _ (s : List ℕ) (j p : ℕ) (q : Bool) (g : Grant) (e : g ≡ grantOf s 
   receive-place = receive-clear .3
 
   pub receive-receives : (x : Stamped) (n : ℕ) (row b b′ : List ℕ) → x ≡ stamped j row (g .slot) → row ≡ rowBytes (mergedRow s j p)
-      → n ≡ learntFrom s j p → b ≡ cleared s (mailFrom + p) → b′ ≡ shelved (post b j 1 0 row) j row (g .slot)
+      → n ≡ learntFrom s j p → b ≡ cleared s (mailFrom + p) → b′ ≡ shelved (rowTaken b j row) j row (g .slot)
       → Receives s (receive j p q) 0 (x .stamp) n (x .kept) b′
   unfolding done eventSays
   receive-receives x n row b b′ ex er en eb eb′ =
@@ -237,7 +247,7 @@ module _ (s : List ℕ) (j p : ℕ) (q : Bool) (g : Grant) (e : g ≡ grantOf s 
             tt,
             event-left s (receive j p q) receive-done j (a .eight) (mergedRow s j p) q none (some (learntFrom s j p)) mail refl
                 (receive-clear .4) (cleared s (mailFrom + p)) h row er (g .slot) o b′
-                (eb′ ∙ ap (λ (y : List ℕ). shelved (post y j 1 0 row) j row (g .slot)) eb),
+                (eb′ ∙ ap (λ (y : List ℕ). shelved (rowTaken y j row) j row (g .slot)) eb),
           ),
         ),
       )
@@ -246,7 +256,7 @@ module _ (s : List ℕ) (j k : ℕ) (q : Bool) (g : Grant) (e : g ≡ grantOf s 
   send-done : numberOf s (send j k q) ≡ 0
   send-done = sym (grant-number s (send j k q) q g e) ∙ z
 
-  send-clear : (j < byte s 2) × (own (tablesOf s) j .clock + 1 < byte s 4) × (freeMail (tablesOf s) < 32) × (k < byte s 2) × (j ≡ k → ⊥)
+  send-clear : (j < byte s 2) × (own (tablesOf s) j .clock + 1 < limit (setupOf s) j) × (freeMail (tablesOf s) < 32) × (k < byte s 2) × (j ≡ k → ⊥)
       × Each (λ k. k < 32) (slotFor (tablesOf s) q)
   send-clear = no-send (ringOf (setupOf s)) (setupOf s) (tablesOf s) j k q (ready s (send j k q) send-done .1)
 
@@ -265,7 +275,7 @@ module _ (s : List ℕ) (j k : ℕ) (q : Bool) (g : Grant) (e : g ≡ grantOf s 
 
   pub send-sends : (p : ℕ) (x : Stamped) (row b b′ : List ℕ) → p ≡ freeMail (tablesOf s) → x ≡ stamped j row (g .slot)
       → row ≡ rowBytes (grownRow s j) → b ≡ post s (mailFrom + p) (j + 1) (k + 1) row
-      → b′ ≡ shelved (post b j 1 0 row) j row (g .slot)
+      → b′ ≡ shelved (rowTaken b j row) j row (g .slot)
       → Sends s (send j k q) (Posts.At p) (x .stamp) (x .kept) b′
   unfolding done
   send-sends p x row b b′ ep ex er eb eb′ =
@@ -281,7 +291,7 @@ module _ (s : List ℕ) (j k : ℕ) (q : Bool) (g : Grant) (e : g ≡ grantOf s 
           tt,
           event-left s (send j k q) send-done j (a .eight) (grownRow s j) q (some (freeMail (tablesOf s))) none mail refl (send-clear .5)
               mailed h row er (g .slot) o b′
-              (eb′ ∙ ap (λ (y : List ℕ). shelved (post y j 1 0 row) j row (g .slot))
+              (eb′ ∙ ap (λ (y : List ℕ). shelved (rowTaken y j row) j row (g .slot))
               (eb ∙ (λ i. post s (8 + ep i) (j + 1) (k + 1) (er i)))),
         ),
       )

@@ -3,6 +3,7 @@ ghost use mathlib.Core.Path.{_≡_};
 ghost use Prim.Native.Nat.{_<_, _≤_};
 ghost use lib.ListN.{length};
 ghost use denote.Ref.{ptr};
+ghost use Rattle.rules.specs.Setups.{setupWith};
 ghost use Rattle.rules.specs.Model;
 ghost use Rattle.rules.specs.Model.{refusal};
 ghost use Rattle.rules.specs.Calls;
@@ -16,14 +17,14 @@ ghost use Rattle.book.specs.Answers.{answerTo, bookAfter, partOf, partFrom, tar
 ghost use Rattle.refusals.specs.First.{usedNumber};
 ghost use Rattle.parts.specs.Slices.{place};
 ghost use Rattle.portal.specs.Freed.{cleared, freeAfter};
-ghost use Rattle.portal.specs.Kept.{keptIn, shelved};
+ghost use Rattle.portal.specs.Kept.{keptIn, rowTaken, shelved};
 use rules::Compared;
 use rules::Kept;
 use rules::Pictured;
 use rules::Posted;
 use rules::Received;
 use rules::Sent;
-use rules::Setup;
+use rules::SetupNumbers;
 use rules::Stamp;
 use rules::Stamped;
 use rules::Told;
@@ -87,14 +88,15 @@ fn keep_row(book: &mut [u8], desk: usize, row: [u8; 16], slot: usize) -> Kept
     Kept::In(slot as u8)
 }
 
-// All four events mark the seat started, keep the row where they have a slot for it, and answer a stamp.
+// All four events mark the seat started, leave its limit, keep the row where they have a slot for it, and answer a stamp.
 fn take_row(book: &mut [u8], desk: usize, row: [u8; 16], slot: usize) -> Stamped
     requires { ⌜ length (now book) ≡ bookSize ⌝ }
     requires { ⌜ desk < seats ⌝ }
     ensures { λ r. ⌜ r ≡ record { number = 0; stamp = record { owner = desk; row = row }; kept = keptIn slot } ⌝ }
-    ensures { λ _. ⌜ now (book .exit) ≡ shelved (Layout.post (now (book .entry)) desk 1 0 row) desk row slot ⌝ }
+    ensures { λ _. ⌜ now (book .exit) ≡ shelved (rowTaken (now (book .entry)) desk row) desk row slot ⌝ }
 {
-    parts::post(book, desk, parts::STARTED, parts::FILLER, row);
+    let limit = parts::tag_b(&book[..], desk);
+    parts::post(book, desk, parts::STARTED, limit, row);
     let kept = keep_row(book, desk, row, slot);
     let stamp = Stamp {
         owner: desk as u8,
@@ -107,18 +109,19 @@ fn take_row(book: &mut [u8], desk: usize, row: [u8; 16], slot: usize) -> Stamped
     }
 }
 
-// Start writes a fresh book, whatever the bytes were: rows zero, no seat started, all places free.
-pub fn start(book: &mut [u8], s: Setup) -> u8
-    ensures { λ r. ⌜ refusal r ≡ answerTo (now (book .entry)) (Calls.start s) ⌝ }
-    ensures { λ _. ⌜ now (book .exit) ≡ bookAfter (now (book .entry)) (Calls.start s) ⌝ }
+// Start writes a fresh book under a setup, its numbers and a list of limits, whatever the bytes were: rows zero, no seat started, all
+// places free.
+pub fn start(book: &mut [u8], s: SetupNumbers, limits: &[usize]) -> u8
+    ensures { λ r. ⌜ refusal r ≡ answerTo (now (book .entry)) (Calls.start (setupWith s (now (limits .entry)))) ⌝ }
+    ensures { λ _. ⌜ now (book .exit) ≡ bookAfter (now (book .entry)) (Calls.start (setupWith s (now (limits .entry)))) ⌝ }
 {
     if book.len() != parts::BOOK_BYTES {
         return rules::BAD_BOOK;
     }
-    if !setups::permits(s) {
+    if !setups::permits(s, limits) {
         return rules::BAD_SETUP;
     }
-    fresh::write_fresh(book, s);
+    fresh::write_fresh(book, s, limits);
     rules::DONE
 }
 

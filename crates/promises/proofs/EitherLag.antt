@@ -13,8 +13,7 @@ use Rattle.tools.proofs.Tests.{lt-or-le}
 use Rattle.ring.specs.Phases.{Pair, ring, lagOf}
 use Rattle.ring.specs.Remainder.{remainderOf, remainders}
 use Rattle.ring.proofs.Ring.{lag-remainder}
-use Rattle.rules.specs.declared.Setup.{Setup}
-use Rattle.rules.specs.Setups.{permits}
+use Rattle.rules.specs.Setups.{Setup, permits}
 use Rattle.rules.specs.Model.{Row, Seat, Held, Tables, Label, own, phases}
 use Rattle.rules.specs.Calls.{Call, start, on, turnOf, call}
 use Rattle.rules.proofs.Setups.{Permitted, permitted}

@@ -14,13 +14,12 @@ use Rattle.tools.proofs.Tests.{lt-or-le}
 use Rattle.tools.specs.Tables.{Each}
 use Rattle.tools.proofs.Tables.{put-same, some-is, none-some}
 use Rattle.ring.specs.Phases.{Pair, ring}
-use Rattle.rules.specs.declared.Setup.{Setup}
 use Rattle.rules.specs.Model.{Row, Seat, Held, Tables, Label, Question, slotAsked, Value}
 use Rattle.rules.specs.Model.{Act, local, reset, send, receive, drop, discard, ask, before, compare, write, slotOf}
 use Rattle.rules.specs.Numbers.{BadBook, number}
 use Rattle.rules.specs.Model.{Answer, refusal, byIn, rowIn, used, why, askTells, done, step, settle}
 use Rattle.book.specs.Fits.{PairFits, RowFits, SlotFits, Fits}
-use Rattle.rules.specs.Setups.{permits}
+use Rattle.rules.specs.Setups.{Setup, limit, permits}
 use Rattle.rules.specs.Calls.{Book, Call, start, on, call}
 use Rattle.history.specs.History.{State, begin, next, after, logAfter, setupAfter}
 use Rattle.history.specs.Round.{roundBook}
@@ -56,7 +55,7 @@ pair-reads : (X : Setup) (o B k : ℕ) (q : Pair) → PairFits X o B k q → pai
 unfolding pairReads allOf
 pair-reads X o B k q f =
     ⊎-elim (λ (l : k < X .desks).
-    let r = f .0 l in rw (lt-ltb k (X .desks) l, lt-ltb (q .phase) (X .phases) (r .phase), lt-ltb (q .clock) (X .clocks) (r .clock)))
+    let r = f .0 l in rw (lt-ltb k (X .desks) l, lt-ltb (q .phase) (X .phases) (r .phase), lt-ltb (q .clock) (limit X k) (r .clock)))
     (λ (l : X .desks ≤ k). rw (le-ltb k (X .desks) l, f .1 l)) (lt-or-le k (X .desks))
 
 row-label : (X : Setup) (o : ℕ → ℕ) (B j : ℕ) (r : Row) → j < X .desks → RowFits X o B r → Readable X (record { owner = j; row = r })

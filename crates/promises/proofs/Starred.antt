@@ -1,4 +1,4 @@
--- The starred cases, computed and carried to bytes.
+-- The starred cases and those of different limits, computed and carried to bytes.
 -- Assumes nothing.
 use mathlib.Core.Path.{_≡_, refl, ap, _∙_}
 use mathlib.Core.Bool.{true}
@@ -7,18 +7,20 @@ use mathlib.Core.Logic.{inl, inr}
 use Prim.Native.Nat.{ℕ}
 use borrow.Author.Tests.{eq-eqb}
 use lib.ListN.{length}
+use Rattle.tools.specs.Tests.{allOf, allBelow, lowest, within}
 use Rattle.tools.specs.Lists.{tab}
-use Rattle.rules.specs.declared.Setup.{Setup}
-use Rattle.rules.specs.Setups.{permits}
-use Rattle.rules.specs.Model.{Answer}
+use Rattle.ring.specs.Phases.{laterBy}
+use Rattle.rules.specs.Setups.{Setup, permits, inRange, related, limited, limitOk}
+use Rattle.rules.specs.Model.{Answer, reachBack, reasons, done, step}
 use Rattle.rules.specs.Calls.{Book, Call, start, Turn, ringOf, call}
+use Rattle.rules.specs.Labels.{compareOff}
 use Rattle.rules.specs.Replies.{rowByte}
-use Rattle.history.specs.Runs.{run}
+use Rattle.history.specs.Runs.{run, left}
 use Rattle.cases.proofs.Cases.{cases}
 use Rattle.book.specs.Sound.{sound}
 use Rattle.book.specs.Layout.{bookSize, markedByte}
 use Rattle.book.specs.Codec.{decode}
-use Rattle.book.specs.Stamps.{writeStamp}
+use Rattle.book.specs.Stamps.{writeStamp, pairReads, readOk, readStamp}
 use Rattle.book.specs.Answers.{admits, turnOn, bookAfter}
 use Rattle.book.proofs.Answers.{answer-is, after-decode, after-sound}
 use Rattle.promises.specs.Runs.{answersOn}
@@ -52,5 +54,5 @@ start-run s l X p cs =
 
 -- THE STATEMENT of the starred cases
 pub starred : Starred
-unfolding writeStamp tab markedByte rowByte
-starred = record { cases = cases; fourth = refl; carried = start-run }
+unfolding left call step reasons done reachBack permits inRange related limited limitOk allOf allBelow within lowest laterBy writeStamp readStamp readOk pairReads compareOff tab markedByte rowByte
+starred = record { cases = cases; fourth = refl; sixteenth = λ b. refl; reads = refl; carried = start-run }

@@ -8,7 +8,7 @@ use Prim.Native.Nat.{ℕ}
 use native.Mathlib.Omega.{arith}
 use borrow.Author.Tests.{eq-eqb}
 use Rattle.tools.specs.Tests.{pick}
-use Rattle.rules.specs.declared.Setup.{Setup}
+use Rattle.rules.specs.Setups.{Setup}
 use Rattle.rules.specs.Model.{refusal}
 use Rattle.rules.specs.Calls.{Call, start, on, Turn, ringOf, lineOf, call}
 use Rattle.history.specs.History.{State, begin, next, after}

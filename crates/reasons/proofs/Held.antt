@@ -10,7 +10,7 @@ use borrow.Author.Tests.{lt-ltb, le-ltb, ltb-true, eqb-false}
 use lib.Dec.{ltb, eqb}
 use Rattle.tools.specs.Tests.{pick}
 use Rattle.tools.specs.Lists.{byte}
-use Rattle.tools.proofs.Tests.{eq-by, and-true-r, not-off}
+use Rattle.tools.proofs.Tests.{and-true, eq-by, and-true-r, not-off}
 use Rattle.ring.specs.Phases.{Pair, lagOf}
 use Rattle.rules.specs.Model.{Row, used, toIn, noDesk, lags}
 use Rattle.rules.specs.Calls.{ringOf}
@@ -26,10 +26,6 @@ use Rattle.reasons.specs.Held.{heldAt, usedAt, lagIn, lagsAt, seatLagsAt
 
 pub desk-there : (s : List ℕ) (j : ℕ) → sound s ≡ true → noDesk (setupOf s) j ≡ false → AtDesk s j
 desk-there s j h n = at-desk s j h (ltb-true _ _ (not-off _ n))
-
-and-true : (t : Bool) → (t && true) ≡ t
-and-true true = refl
-and-true false = refl
 
 module _ (s : List ℕ) (a p : ℕ) where
   pub none-beyond : 32 ≤ p → false ≡ usedAt s a p

@@ -41,12 +41,12 @@ pub fn not_yours(book: &[u8], desk: usize, place: usize) -> bool
     tools::wide(parts::tag_b(book, parts::MAIL + place)) != desk + 1
 }
 
-// PhaseFull: the desk's own clock is at its last value.
+// PhaseFull: the desk's own clock is at its last value, by the limit in its seat.
 pub fn phase_full(book: &[u8], desk: usize) -> bool
     requires { ⌜ AtDesk (now book) desk ⌝ }
     ensures { λ r. ⌜ r ≡ atLimit (setupOf (now (book .entry))) (tablesOf (now (book .entry))) desk ⌝ }
 {
-    !(tools::wide(parts::clock_at(book, desk, desk)) + 1 < parts::clocks_of(book))
+    !(tools::wide(parts::clock_at(book, desk, desk)) + 1 < tools::wide(parts::tag_b(book, desk)))
 }
 
 // The lowest free one of the 32 places or slots, 32 where there is none; first is the record of place or slot 0.

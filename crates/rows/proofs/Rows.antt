@@ -15,6 +15,7 @@ use Rattle.tools.proofs.Tables.{put-both}
 use Rattle.tools.proofs.Lists.{filled-more}
 use Rattle.ring.specs.Phases.{Pair, isLater, Taken, later}
 use Rattle.ring.proofs.Ring.{not-later}
+use Rattle.rules.specs.Setups.{limit}
 use Rattle.rules.specs.Model.{Row, zeros, own, rowIn, tick, turn, taken, learns}
 use Rattle.rules.specs.Calls.{ringOf}
 use Rattle.rules.specs.Replies.{rowByte, rowBytes}
@@ -32,11 +33,11 @@ use Rattle.rows.specs.Rows.{AtDesk, Grows, takenAt, laterRow, learnsAt, 
 pub at-desk : (s : List ℕ) (j : ℕ) → sound s ≡ true → j < byte s 2 → AtDesk s j
 at-desk s j h l = record { whole = h; size = sound-size s h; eight = omega (arith, few-desks s h) }
 
-pub grows : (s : List ℕ) (j : ℕ) → sound s ≡ true → j < byte s 2 → own (tablesOf s) j .clock + 1 < byte s 4 → Grows s j
+pub grows : (s : List ℕ) (j : ℕ) → sound s ≡ true → j < byte s 2 → own (tablesOf s) j .clock + 1 < limit (setupOf s) j → Grows s j
 grows s j h l m =
     let a = at-desk s j h l in
     let e : own (tablesOf s) j .clock ≡ rowAt s j j .clock = ap (λ (q : Pair). q .clock) (own-at s j (a .eight)) in
-    record { at = a; clock = omega (arith, e, room s h) }
+    record { at = a; clock = omega (arith, e, room s h j l) }
 
 -- the next desk's pair of a row that is filled desk by desk
 pub filled-pair : (r : Row) (k a b : ℕ) (row : List ℕ) (x y : ℕ) → Filled 16 (2 * k) (rowByte r) row → k < 8

@@ -1,7 +1,7 @@
 -- Above and below each edge, worked by hand: which setups are permitted, which number each refusal is, of how many desks a mail
 -- tells, and what pictures show, in literal numbers.
 -- Assumes nothing.
---   setup            the setup of the numbers D, P, L, M, A, m and n
+--   setupBy          the setup of the numbers D, P, the limits, M, A, m and n; setup, the same with one limit L for all D desks
 --   ends, held       not permitted below a range, permitted at both its ends, not permitted above; not permitted, then permitted
 --   Edges            each setup number below, at and above its range; each inequality just failed and just held
 --   pair v t         the pair v.t; row p q r, the row of three desks with these pairs; seat p q r, the seat of such a row
@@ -9,10 +9,12 @@
 --   X                the setup of the books; empty, a fresh book
 --   crowded          a book with no free place and no free slot, where at each desk some row lags as far as it may
 --   Numbers b ts     on the book b each call is answered by the number beside it
+--   limitedAt t u    a book of two desks with the limits 4 and 2, desk 0 at the clock t and desk 1 at u, mail waiting for each
 --   letter p q r     mail from desk 1 to desk 0 with these pairs; lettered, a book with one in each of seven places
 --   stampAt v t      a stamp of desk 0 with the pair v.t
 --   edges            the setup numbers
 --   empty-numbers, crowded-numbers, off-numbers   the answer numbers, on books and off
+--   limited-numbers, ticking-numbers   PhaseFull by each desk's own limit
 --   learnt-numbers   of how many desks each letter tells
 --   taken-by j p q r a kept stamp of desk j with these pairs; shelved, a book with fourteen of them
 --   picture-answers, picture-numbers   what lists of its slots are told; by which numbers others are refused
@@ -22,20 +24,23 @@ use mathlib.Core.Path.{_≡_, refl}
 use mathlib.Core.Bool.{Bool, true, false}
 use mathlib.Core.Option.{Option, none, some}
 use mathlib.Core.List.{List, [], _∷_, map}
-use Rattle.tools.specs.Tests.{allOf, within, any, lowest, count}
+use lib.ListN.{replicate}
+use Rattle.tools.specs.Tests.{allOf, allBelow, within, any, lowest, count}
 use Rattle.tools.specs.Tables.{put}
 use Rattle.ring.specs.Phases.{Pair, laterBy}
-use Rattle.rules.specs.declared.Setup.{Setup}
-use Rattle.rules.specs.Setups.{permits, inRange, related}
+use Rattle.rules.specs.Setups.{Setup, permits, inRange, related, limited, limitOk}
 use Rattle.rules.specs.Numbers.{BadBook, BadLine, number}
 use Rattle.rules.specs.Model.{Row, Seat, Held, Label, local, reset, send, receive, drop, discard, before, compare, picture, write}
 use Rattle.rules.specs.Model.{says, names, accepted, zeros, idle, reachBack, pictured, askReasons, reasons, askTells, done, step}
 use Rattle.rules.specs.Calls.{Book, Call, start, on, freshBook, ringOf, call}
 use Rattle.rules.specs.Labels.{beforeOff, compareOff}
 
+abbrev setupBy : ℕ → ℕ → List ℕ → ℕ → ℕ → ℕ → ℕ → Setup
+setupBy D P ls M A m n =
+    record { desks = D; phases = P; limits = ls; seatLag = M; shelfLag = A; back = m; ahead = n }
+
 abbrev setup : ℕ → ℕ → ℕ → ℕ → ℕ → ℕ → ℕ → Setup
-setup D P L M A m n =
-    record { desks = D; phases = P; clocks = L; seatLag = M; shelfLag = A; back = m; ahead = n }
+setup D P L M A m n = setupBy D P (replicate D L) M A m n
 
 abbrev ends : List Bool
 ends = false ∷ true ∷ true ∷ false ∷ []
@@ -47,10 +52,15 @@ pub record Edges : Type 0 where
   pub D : map (λ D. permits (setup D 20 10 4 8 5 5)) (1 ∷ 2 ∷ 8 ∷ 9 ∷ []) ≡ ends
   pub P : map (λ P. permits (setup 3 P 10 1 1 1 1)) (2 ∷ 3 ∷ 255 ∷ 256 ∷ []) ≡ ends
   pub L : map (λ L. permits (setup 3 20 L 4 8 5 5)) (1 ∷ 2 ∷ 255 ∷ 256 ∷ []) ≡ ends
+  pub L-first : map (λ L. permits (setupBy 3 20 (L ∷ 4 ∷ 200 ∷ []) 4 8 5 5)) (1 ∷ 2 ∷ 255 ∷ 256 ∷ []) ≡ ends
+  pub L-last : map (λ L. permits (setupBy 3 20 (200 ∷ 4 ∷ L ∷ []) 4 8 5 5)) (1 ∷ 2 ∷ 255 ∷ 256 ∷ []) ≡ ends
   pub M : map (λ M. permits (setup 3 255 10 M 200 5 5)) (0 ∷ 1 ∷ 127 ∷ 128 ∷ []) ≡ ends
   pub A : map (λ A. permits (setup 3 255 10 1 A 5 5)) (0 ∷ 1 ∷ 254 ∷ 255 ∷ []) ≡ ends
   pub m : map (λ m. permits (setup 3 255 10 4 8 m 5)) (0 ∷ 1 ∷ 127 ∷ 128 ∷ []) ≡ ends
   pub n : map (λ n. permits (setup 3 255 10 4 8 5 n)) (0 ∷ 1 ∷ 127 ∷ 128 ∷ []) ≡ ends
+  -- a limit for each desk, and no other
+  pub count : map (λ ls. permits (setupBy 3 20 ls 4 8 5 5)) ((4 ∷ 2 ∷ []) ∷ (4 ∷ 2 ∷ 9 ∷ []) ∷ (4 ∷ 2 ∷ 9 ∷ 9 ∷ []) ∷ [])
+      ≡ (false ∷ true ∷ false ∷ [])
   -- A >= M, P >= 2M+1, P >= A+1, P >= m+n
   pub A-M : map (λ A. permits (setup 3 255 10 50 A 5 5)) (49 ∷ 50 ∷ []) ≡ held
   pub P-M : map (λ P. permits (setup 3 P 10 50 60 5 5)) (100 ∷ 101 ∷ []) ≡ held
@@ -61,16 +71,19 @@ pub record Edges : Type 0 where
   pub most : map (λ P. permits (setup 3 P 10 4 8 127 127)) (253 ∷ 254 ∷ []) ≡ held
 
 pub edges : Edges
-unfolding permits inRange related allOf within
+unfolding permits inRange related limited limitOk allOf allBelow within
 edges =
     record {
       D = refl;
       P = refl;
       L = refl;
+      L-first = refl;
+      L-last = refl;
       M = refl;
       A = refl;
       m = refl;
       n = refl;
+      count = refl;
       A-M = refl;
       P-M = refl;
       P-A = refl;
@@ -129,7 +142,7 @@ pub empty-numbers : Numbers empty
     ∷ (on (drop 0), 5)
     ∷ (on (write 0 19), 5)
     ∷ [])
-unfolding call step askReasons reasons done permits inRange related allOf within any lowest
+unfolding call step askReasons reasons done permits inRange related limited limitOk allOf allBelow within any lowest
 empty-numbers = refl
 
 pub crowded-numbers : Numbers crowded
@@ -159,8 +172,33 @@ pub crowded-numbers : Numbers crowded
     ∷ (on (before 3 1), 16)
     ∷ (on (compare 2 0), 16)
     ∷ [])
-unfolding call step reachBack askReasons reasons done permits inRange related allOf within any lowest
+unfolding call step reachBack askReasons reasons done permits inRange related limited limitOk allOf allBelow within any lowest
 crowded-numbers = refl
+
+abbrev limitedAt : ℕ → ℕ → Book
+limitedAt t u =
+    record {
+      setup = setupBy 2 5 (4 ∷ 2 ∷ []) 2 4 2 2;
+      tables = record {
+        seat = put (put (λ j. idle) 0 (seat (pair 0 t) (pair 0 u) (pair 0 0))) 1 (seat (pair 0 t) (pair 0 u) (pair 0 0));
+        mail = put (put (λ p. none) 0 (some record { by = 1; to = 0; row = row (pair 0 1) (pair 0 1) (pair 0 0) }))
+            1 (some record { by = 0; to = 1; row = row (pair 0 3) (pair 0 0) (pair 0 0) });
+        shelf = λ s. none;
+      };
+    }
+
+-- desk 0 is at clock 3 or 2 of four, desk 1 at clock 1 or 0 of two
+pub limited-numbers : Numbers (limitedAt 3 1)
+    ((on (local 0 false), 8) ∷ (on (local 1 false), 8) ∷ (on (send 0 1 false), 8) ∷ (on (send 1 0 false), 8) ∷ (on (receive 0 0 false), 8)
+    ∷ (on (receive 1 1 false), 8) ∷ [])
+unfolding call step askReasons reasons done permits inRange related allOf within any lowest
+limited-numbers = refl
+
+pub ticking-numbers : Numbers (limitedAt 2 0)
+    ((on (local 0 false), 0) ∷ (on (local 1 false), 0) ∷ (on (send 0 1 false), 0) ∷ (on (send 1 0 false), 0) ∷ (on (receive 0 0 false), 0)
+    ∷ (on (receive 1 1 false), 0) ∷ [])
+unfolding call step askReasons reasons done permits inRange related allOf within any lowest
+ticking-numbers = refl
 
 abbrev letter : Pair → Pair → Pair → Option Held
 letter p q r = some record { by = 1; to = 0; row = row p q r }
@@ -268,7 +306,7 @@ pub off-numbers : (beforeOff X (stampAt 0 1) (stampAt 1 1) .number
     ∷ beforeOff X (stampAt 0 1) (stampAt 3 0) .number
     ∷ compareOff X (stampAt 0 0) (stampAt 3 1) .number
     ∷ []) ≡ (0 ∷ 2 ∷ 2 ∷ 14 ∷ 14 ∷ 16 ∷ 0 ∷ 16 ∷ 16 ∷ 16 ∷ [])
-unfolding permits inRange related allOf within reachBack beforeOff compareOff
+unfolding permits inRange related limited limitOk allOf allBelow within reachBack beforeOff compareOff
 off-numbers = refl
 
 pub other-numbers : (number BadBook ≡ 1) × (number BadLine ≡ 17)

@@ -14,7 +14,7 @@ use Rattle.tools.specs.Tables.{Each}
 use Rattle.tools.proofs.Tests.{and-true-l, and-true-r, lt-or-le}
 use Rattle.tools.proofs.Tables.{some-is, none-some}
 use Rattle.ring.specs.Phases.{Phases}
-use Rattle.rules.specs.declared.Setup.{Setup}
+use Rattle.rules.specs.Setups.{Setup, limit}
 use Rattle.rules.specs.Numbers.{Name, number}
 use Rattle.rules.specs.Model.{Held, Tables, Question, askBefore, askCompare, askPicture, askShow, askWrite, slotAsked, Act, local, reset}
 use Rattle.rules.specs.Model.{send, receive, ask, why, stamp, says, names, shows, freeMail, slotFor, byIn, rowIn, used, own, lags, seatLags}
@@ -59,7 +59,7 @@ module _ (Z : Phases) (X : Setup) (b : Tables) where
   slot-there c k false e = tt
 
   pub no-local : (j : ℕ) (q : Bool) → why Z X b (local j q) ≡ 0
-      → (j < X .desks) × (own b j .clock + 1 < X .clocks) × Each (λ s. s < 32) (slotFor b q)
+      → (j < X .desks) × (own b j .clock + 1 < limit X j) × Each (λ s. s < 32) (slotFor b q)
   no-local j q e = (
     below _ _ (λ l. none-due e (no-desk at-local l)),
     below _ _ (λ l. none-due e (phase-full by-local l)),
@@ -67,7 +67,7 @@ module _ (Z : Phases) (X : Setup) (b : Tables) where
   )
 
   pub no-send : (j k : ℕ) (q : Bool) → why Z X b (send j k q) ≡ 0
-      → (j < X .desks) × (own b j .clock + 1 < X .clocks) × (freeMail b < 32) × (k < X .desks) × (j ≡ k → ⊥)
+      → (j < X .desks) × (own b j .clock + 1 < limit X j) × (freeMail b < 32) × (k < X .desks) × (j ≡ k → ⊥)
       × Each (λ s. s < 32) (slotFor b q)
   no-send j k q e = (
     below _ _ (λ l. none-due e (no-desk at-send l)),
@@ -79,7 +79,7 @@ module _ (Z : Phases) (X : Setup) (b : Tables) where
   )
 
   pub no-receive : (j p : ℕ) (q : Bool) → why Z X b (receive j p q) ≡ 0
-      → (j < X .desks) × (used (b .mail p) ≡ true) × (own b j .clock + 1 < X .clocks) × (p < 32) × Each (λ s. s < 32) (slotFor b q)
+      → (j < X .desks) × (used (b .mail p) ≡ true) × (own b j .clock + 1 < limit X j) × (p < 32) × Each (λ s. s < 32) (slotFor b q)
   no-receive j p q e =
       let t = there p (b .mail p) (λ g. none-due e (no-mail of-receive g)) in (
         below _ _ (λ l. none-due e (no-desk at-receive l)),

@@ -12,9 +12,8 @@ use Rattle.tools.proofs.Tables.{put-same, put-other}
 use Rattle.tools.proofs.Tests.{eq-or-ne, count-but, count-zero, zero-count}
 use Rattle.ring.specs.Phases.{Phases, Gap, laterBy, lagGap, later}
 use Rattle.ring.proofs.Ring.{later-stays, changed-differs}
-use Rattle.rules.specs.declared.Setup.{Setup}
 use Rattle.rules.specs.declared.Relation.the-variants.{Before, After, Same, Concurrent, Crossed}
-use Rattle.rules.specs.Setups.{permits}
+use Rattle.rules.specs.Setups.{Setup, permits}
 use Rattle.rules.specs.Numbers.{Name}
 use Rattle.rules.specs.Model.{Row, Held, Tables, Act, local, reset, send, receive, drop, discard}
 use Rattle.rules.specs.Model.{before, compare, show, write, nothing, made, stamp, says, relates, shows, accepted, Result}

@@ -15,7 +15,6 @@ use Rattle.tools.specs.Reasons.{Holds, Smallest}
 use Rattle.tools.proofs.Reasons.{smallest-swap}
 use Rattle.tools.proofs.Tests.{and-true-l, and-true-r, and-false, any-at, any-true, lt-or-le}
 use Rattle.ring.specs.Phases.{Phases, Gap}
-use Rattle.rules.specs.declared.Setup.{Setup}
 use Rattle.rules.specs.Numbers.{Name, NoDesk, SameDesk, NoPlace, NotYours, NoEvent, PhaseFull, MailFull, ShelfFull, SeatBehind}
 use Rattle.rules.specs.Numbers.{MailBehind, ShelfBehind, NoRoom, OutOfReach, WrongOwner, number}
 use Rattle.rules.specs.Model.{Held, Tables, Label, Act, local, reset, send, receive, drop, discard}
@@ -29,7 +28,7 @@ use Rattle.rules.specs.Due.{asks-before, asks-compare, asks-back, asks-t
 use Rattle.rules.specs.Due.{not-yours, phase-full, mail-full, shelf-full, seat-behind, mail-behind, shelf-behind, no-room}
 use Rattle.rules.specs.Due.{other-count, out-of-reach, wrong-owner, DueNumber}
 use Rattle.rules.specs.Frames.{LowestFree}
-use Rattle.rules.specs.Setups.{permits}
+use Rattle.rules.specs.Setups.{Setup, limit, permits}
 use Rattle.rules.specs.Labels.{reasonsOff, beforeOff, compareOff}
 use Rattle.rules.specs.Calls.{Book, Call, start, on, freshBook, settled, call}
 use Rattle.rules.proofs.Frames.{lowest-place, lowest-slot}
@@ -112,11 +111,11 @@ module _ (Z : Phases) (X : Setup) (b : Tables) where
       go (inl q) = far i k m n q (or-left _ _ e)
       go (inr q) = far k i n m (omega arith) (or-right (isOut (gapFrom Z X b (chosen l k) (chosen l i))) _ e)
 
-  is-at-limit : (j : ℕ) → atLimit X b j ≡ true → X .clocks ≤ own b j .clock + 1
-  is-at-limit j t = is-least (own b j .clock + 1) (X .clocks) t
+  is-at-limit : (j : ℕ) → atLimit X b j ≡ true → limit X j ≤ own b j .clock + 1
+  is-at-limit j t = is-least (own b j .clock + 1) (limit X j) t
 
-  at-limit : (j : ℕ) → X .clocks ≤ own b j .clock + 1 → atLimit X b j ≡ true
-  at-limit j l = at-least (own b j .clock + 1) (X .clocks) l
+  at-limit : (j : ℕ) → limit X j ≤ own b j .clock + 1 → atLimit X b j ≡ true
+  at-limit j l = at-least (own b j .clock + 1) (limit X j) l
 
   -- a row that is due stands in the list of reasons, by its number
   listed : {c : Act} {w : Name} → Due Z X b c w → Holds (reasons Z X b c) (number w)

@@ -11,7 +11,7 @@ use Rattle.tools.specs.Tables.{putAt}
 use Rattle.tools.proofs.Tables.{put-other}
 use Rattle.tools.proofs.Tests.{not-off, lowest-is}
 use Rattle.ring.specs.Phases.{Phases}
-use Rattle.rules.specs.declared.Setup.{Setup}
+use Rattle.rules.specs.Setups.{Setup}
 use Rattle.rules.specs.Model.{Held, Tables, Question, Act, local, reset, send, receive, drop, discard, ask}
 use Rattle.rules.specs.Model.{used, freeMail, freeSlot, slotFor, settle, why, done, step}
 use Rattle.rules.specs.Frames.{SameBut, touches, Stays, LowestFree}

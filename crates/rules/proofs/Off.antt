@@ -12,9 +12,8 @@ use lib.Dec.{eqb}
 use Rattle.tools.proofs.Tests.{lt-or-le}
 use Rattle.ring.specs.Phases.{Phases, Gap, lagOf}
 use Rattle.ring.proofs.Ring.{lag-below, ComesTo}
-use Rattle.rules.specs.declared.Setup.{Setup}
 use Rattle.rules.specs.declared.Relation.the-variants.{Before, After, Same, Concurrent, Crossed}
-use Rattle.rules.specs.Setups.{permits}
+use Rattle.rules.specs.Setups.{Setup, permits}
 use Rattle.rules.specs.Model.{Row, Label, nothing, relates, accepted, near}
 use Rattle.rules.specs.Calls.{Book, start, freshBook, call}
 use Rattle.rules.specs.Labels.{orElse, gapOff, compareOff, First, Second, Neither, newestBy, newestOff}

@@ -19,7 +19,7 @@ use Rattle.tools.specs.Tests.{pick, any}
 use Rattle.tools.proofs.Tests.{and-true-l, and-true-r, any-true, any-false, Lowest, lowest-is, lt-or-le}
 use Rattle.tools.proofs.Tables.{some-is, none-some}
 use Rattle.ring.specs.Phases.{Phases, isLater}
-use Rattle.rules.specs.declared.Setup.{Setup}
+use Rattle.rules.specs.Setups.{Setup}
 use Rattle.rules.specs.Model.{Held, Tables, Odds, Value, picture, says, names, accepted, own, byIn, rowIn}
 use Rattle.rules.specs.Model.{atOdds, chosen, ofTwo, firstOdd, secondOdd, pictured, askTells, done}
 

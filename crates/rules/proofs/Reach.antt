@@ -14,8 +14,7 @@ use Rattle.tools.proofs.Tests.{and-false}
 use Rattle.tools.proofs.Tables.{some-is, none-some}
 use Rattle.ring.specs.Phases.{Gap}
 use Rattle.ring.proofs.Ring.{ComesTo, comes-once}
-use Rattle.rules.specs.declared.Setup.{Setup}
-use Rattle.rules.specs.Setups.{permits}
+use Rattle.rules.specs.Setups.{Setup, permits}
 use Rattle.rules.specs.Model.{reachBack, near, isOut}
 use Rattle.rules.proofs.Setups.{Permitted, permitted}
 

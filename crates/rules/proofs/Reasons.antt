@@ -9,7 +9,7 @@ use Rattle.tools.specs.Reasons.{first, rises, Holds, Smallest}
 use Rattle.tools.proofs.Reasons.{first-smallest, holds-above}
 use native.Mathlib.Omega.{arith}
 use Rattle.ring.specs.Phases.{Phases}
-use Rattle.rules.specs.declared.Setup.{Setup}
+use Rattle.rules.specs.Setups.{Setup}
 use Rattle.rules.specs.Numbers.{BadBook, number}
 use Rattle.rules.specs.Model.{Tables, Question, askBefore, askCompare, askPicture, askShow, askWrite, Act, local, reset, send, receive, drop, discard, ask, Value}
 use Rattle.rules.specs.Model.{refusal, isOut, askReasons, reasons, step}

@@ -14,8 +14,7 @@ use mathlib.Core.List.{List, [], _∷_}
 use Prim.Native.Nat.{ℕ}
 use Rattle.tools.specs.Reasons.{Reason, first, ifDone}
 use Rattle.ring.specs.Phases.{Phases, ring, line}
-use Rattle.rules.specs.declared.Setup.{Setup}
-use Rattle.rules.specs.Setups.{permits}
+use Rattle.rules.specs.Setups.{Setup, permits}
 use Rattle.rules.specs.Numbers.{BadSetup, given}
 use Rattle.rules.specs.Model.{Tables, Act, nothing, Answer, refusal, accepted, Result, fresh, reasons, step}
 

@@ -18,7 +18,7 @@ use mathlib.Core.List.{List}
 use lib.ListN.{length}
 use Prim.Native.Nat.{ℕ, _+_, _*_, _≤_, _<_}
 use Rattle.ring.specs.Phases.{Phases}
-use Rattle.rules.specs.declared.Setup.{Setup}
+use Rattle.rules.specs.Setups.{Setup, limit}
 use Rattle.rules.specs.Numbers.{
   Name,
   NoDesk,
@@ -95,8 +95,8 @@ pub data Due (Z : Phases) (X : Setup) (b : Tables) : Act → Name → Type 0 whe
   other-count : {l : List ℕ} → (length l ≡ X .desks → ⊥) → Due Z X b (picture l) NoPlace
   -- mail addressed to another desk
   not-yours : {j p : ℕ} {q : Bool} {w : Held} → b .mail p ≡ some w → (w .to ≡ j → ⊥) → Due Z X b (receive j p q) NotYours
-  -- local, send or receive at own clock L-1
-  phase-full : {c : Act} {j : ℕ} → Ticks c j → X .clocks ≤ own b j .clock + 1 → Due Z X b c PhaseFull
+  -- local, send or receive where the own clock is the desk's limit less 1
+  phase-full : {c : Act} {j : ℕ} → Ticks c j → limit X j ≤ own b j .clock + 1 → Due Z X b c PhaseFull
   -- send with no free place
   mail-full : {j k : ℕ} {q : Bool} → ((p : ℕ) → p < 32 → used (b .mail p) ≡ true) → Due Z X b (send j k q) MailFull
   -- an event to be kept with no free slot

@@ -20,10 +20,9 @@ use mathlib.Core.List.{List, [], _∷_}
 use Prim.Native.Nat.{ℕ, _-_}
 use Rattle.tools.specs.Reasons.{Reason, first, ifDone}
 use Rattle.ring.specs.Phases.{Gap, lagOf}
-use Rattle.rules.specs.declared.Setup.{Setup}
 use Rattle.rules.specs.declared.Relation.{Relation}
 use Rattle.rules.specs.declared.Relation.the-variants.{Before, After, Same, Concurrent, Crossed}
-use Rattle.rules.specs.Setups.{permits}
+use Rattle.rules.specs.Setups.{Setup, permits}
 use Rattle.rules.specs.Numbers.{BadSetup, BadStamp, OutOfReach, given}
 use Rattle.rules.specs.Model.{Row, Label, Value, says, relates, Answer, refusal, accepted, zeros, near, isOut, gapIn, isBefore, relation}
 

@@ -21,7 +21,6 @@
 --   used, rowIn, byIn, toIn   of a place or slot: whether it is used, its row, its sender or owner, its addressee
 --   zeros, idle, fresh        a row of zeros, a seat not started, the tables of a fresh book
 --   own b k          desk k's pair in its own seat; phases b k, its phase
---   limit X k        the clock values of desk k: 0 up to it, it left out
 --   freeMail b       the lowest free mail place, or their number where none is free; freeSlot likewise
 --   slotFor b q      the slot for the stamp of an event: the lowest free one where it is kept, q; none where it is not
 --   tick, turn       a pair after local, send or receive; after a reset
@@ -71,7 +70,7 @@ use Rattle.tools.specs.Lists.{byte}
 use Rattle.tools.specs.Tables.{put, putAt}
 use Rattle.tools.specs.Reasons.{Reason, first, ifDone}
 use Rattle.ring.specs.Phases.{Phases, Pair, Gap, laterBy, lagGap, isLater, Taken, later}
-use Rattle.rules.specs.declared.Setup.{Setup}
+use Rattle.rules.specs.Setups.{Setup, limit}
 use Rattle.rules.specs.declared.Relation.{Relation}
 use Rattle.rules.specs.declared.Relation.the-variants.{Before, After, Same, Concurrent, Crossed}
 use Rattle.rules.specs.Numbers.{
@@ -271,9 +270,6 @@ own b k = b .seat k .row k
 
 abbrev pub phases : Tables → ℕ → ℕ
 phases b k = own b k .phase
-
-abbrev pub limit : Setup → ℕ → ℕ
-limit X k = X .clocks
 
 abbrev pub freeMail : Tables → ℕ
 freeMail b = lowest places (λ p. not (used (b .mail p)))

@@ -40,11 +40,10 @@ pub const BAD_LINE: u8 = 17;
 
 pub const WRONG_OWNER: u8 = 18;
 
-// The setup numbers D, P, L, M, A, m and n, wide enough for any number that comes in.
-pub struct Setup {
+// The setup numbers D, P, M, A, m and n, wide enough for any number that comes in. The desks' limits are lent beside them, as a list.
+pub struct SetupNumbers {
     pub desks: usize,
     pub phases: usize,
-    pub clocks: usize,
     pub seatLag: usize,
     pub shelfLag: usize,
     pub back: usize,

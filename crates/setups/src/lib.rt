@@ -1,36 +1,70 @@
-// Whether a setup is permitted.
+// Whether a setup is permitted: its numbers, and its desks' limits.
 ghost use mathlib.Core.Path.{_≡_};
+ghost use mathlib.Core.Bool.{_&&_};
+ghost use mathlib.Core.List.{[]};
 ghost use Prim.Native.Nat.{_≤_};
 ghost use Rattle.rules.specs.Setups;
-use rules::Setup;
+use rules::SetupNumbers;
 
-fn in_range(s: Setup) -> bool
-    ensures { λ r. ⌜ r ≡ Setups.inRange s ⌝ }
+fn in_range(s: SetupNumbers) -> bool
+    ensures { λ r. ⌜ r ≡ Setups.inRange (Setups.setupWith s []) ⌝ }
 {
     tools::within(2, 8, s.desks)
         & (tools::within(3, 255, s.phases)
-            & (tools::within(2, 255, s.clocks)
-                & (tools::within(1, 127, s.seatLag)
-                    & (tools::within(1, 254, s.shelfLag)
-                        & (tools::within(1, 127, s.back) & tools::within(1, 127, s.ahead))))))
+            & (tools::within(1, 127, s.seatLag)
+                & (tools::within(1, 254, s.shelfLag)
+                    & (tools::within(1, 127, s.back) & tools::within(1, 127, s.ahead)))))
 }
 
-fn related(s: Setup) -> bool
+fn related(s: SetupNumbers) -> bool
     requires { ⌜ (s .seatLag ≤ 127) × (s .shelfLag ≤ 254) × (s .phases ≤ 255) ⌝ }
     requires { ⌜ (s .back ≤ 127) × (s .ahead ≤ 127) ⌝ }
-    ensures { λ r. ⌜ r ≡ Setups.related s ⌝ }
+    ensures { λ r. ⌜ r ≡ Setups.related (Setups.setupWith s []) ⌝ }
 {
     (s.seatLag <= s.shelfLag)
         & ((2 * s.seatLag + 1 <= s.phases)
             & ((s.shelfLag + 1 <= s.phases) & (s.back + s.ahead <= s.phases)))
 }
 
-// Whether a setup is permitted.
-pub fn permits(s: Setup) -> bool
-    ensures { λ r. ⌜ r ≡ Setups.permits s ⌝ }
+// Whether the six numbers are in range and related as they have to be. What the limits are does not count.
+pub fn numbers_ok(s: SetupNumbers) -> bool
+    ensures { λ r. ⌜ r ≡ (Setups.inRange (Setups.setupWith s []) && Setups.related (Setups.setupWith s [])) ⌝ }
 {
     if !in_range(s) {
         return false;
     }
     related(s)
+}
+
+// Whether a limit is in its range.
+pub fn limit_ok(limit: usize) -> bool
+    ensures { λ r. ⌜ r ≡ Setups.limitOk limit ⌝ }
+{
+    tools::within(2, 255, limit)
+}
+
+// Whether there are as many limits as desks, each in its range. They are counted first, so that no long list is gone through.
+fn limited(s: SetupNumbers, limits: &[usize]) -> bool
+    ensures { λ r. ⌜ r ≡ Setups.limited (Setups.setupWith s (now (limits .entry))) ⌝ }
+{
+    if limits.len() != s.desks {
+        return false;
+    }
+    let mut ok = true;
+    let mut j: usize = 0;
+    while j < limits.len() {
+        ok = ok & limit_ok(limits[j]);
+        j += 1;
+    }
+    ok
+}
+
+// Whether a setup is permitted.
+pub fn permits(s: SetupNumbers, limits: &[usize]) -> bool
+    ensures { λ r. ⌜ r ≡ Setups.permits (Setups.setupWith s (now (limits .entry))) ⌝ }
+{
+    if !numbers_ok(s) {
+        return false;
+    }
+    limited(s, limits)
 }

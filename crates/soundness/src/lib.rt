@@ -110,10 +110,11 @@ fn head_ok(book: &[u8]) -> bool
     requires { ⌜ length (now book) ≡ bookSize ⌝ }
     ensures { λ r. ⌜ r ≡ headOk (now (book .entry)) ⌝ }
 {
-    (book[0] == parts::BOOK_MARK0) & ((book[1] == parts::BOOK_MARK1) & spare_zero(book))
+    (book[0] == parts::BOOK_MARK0)
+        & ((book[1] == parts::BOOK_MARK1) & ((book[parts::BLANK_AT] == 0) & spare_zero(book)))
 }
 
-// The records come first: nothing has to be held for later while they are gone through.
+// The records come first: nothing has to be held for later while they are gone through. Those of the seats ask the limits.
 pub fn sound(book: &[u8]) -> bool
     ensures { λ r. ⌜ r ≡ Sound.sound (now (book .entry)) ⌝ }
 {
@@ -121,5 +122,5 @@ pub fn sound(book: &[u8]) -> bool
         return false;
     }
     let records = records_sound(book);
-    head_ok(book) & (setups::permits(parts::setup_of(book)) & records)
+    head_ok(book) & (setups::numbers_ok(parts::numbers_of(book)) & records)
 }

@@ -1,5 +1,7 @@
 -- `asking::compared` meets its contract.
 -- Assumes nothing.
+use Rattle.rules.specs.Setups.{setupWith}
+use Rattle.book.specs.Layout.{limitsOf}
 use Rattle.book.proofs.Soundness.{sound-size}
 use Rattle.refusals.proofs.Slots.{Two, slots-two}
 use Rattle.asking.proofs.Slots.{reach-bytes}
@@ -12,8 +14,8 @@ use Rattle.asking.proofs.compared.Tie as tie
 used : (c : tie.Start) → Two (c .args .book .now) (c .args .first) (c .args .second)
 used c = slots-two _ _ _ (c .pre)
 
-setup-of-requires : tie.Need-setup-of-requires
-setup-of-requires c κs = sound-size _ (used (c .before) .whole)
+numbers-of-requires : tie.Need-numbers-of-requires
+numbers-of-requires c κs = sound-size _ (used (c .before) .whole)
 
 owner-of-requires : tie.Need-owner-of-requires
 owner-of-requires c κs = let u = used (c .before .before) in (sound-size _ (u .whole), u .first)
@@ -29,7 +31,8 @@ way-of-requires-2 c κs = let u = used (c .before .before .before .before .befor
 
 compared-requires : tie.Need-compared-requires
 compared-requires c κs =
-    reach-bytes _ _ (c .before .before .before .before .setup-of .ensures) (used (c .before .before .before .before .before .before) .whole)
+    let s = c .before .before .before .before in
+    reach-bytes _ (setupWith _ _) (s .numbers-of .ensures) (used (s .before .before) .whole)
 
 returns : tie.Need-returns
 returns c =
@@ -37,11 +40,13 @@ returns c =
     let w = c .before .before .way-of in
     let k = c .before .before .before .owner-of2 in
     let j = c .before .before .before .before .owner-of in
-    let s = c .before .before .before .before .before .setup-of in
-    compare-answered _ _ _ (used (c .before .before .before .before .before .before .before)) (s .result) (s .ensures) (j .result)
-    (k .result) (j .ensures) (k .ensures) (w .result) (w .ensures) (v .result) (v .ensures) (c .compared .result) (c .compared .ensures)
+    let s = c .before .before .before .before .before .numbers-of in
+    let x = c .before .before .before .before .before .before .before in
+    let l = limitsOf (x .args .book .now) in
+    compare-answered _ _ _ (used x) (setupWith (s .result) l) (s .ensures) (j .result) (k .result) (j .ensures) (k .ensures) (w .result)
+    (w .ensures) (v .result) (v .ensures) (c .compared .result) (c .compared .ensures l)
 
 pub compared-spec : {M : Type 1} → statement M
 compared-spec =
     tie.close
-    (tie.spec setup-of-requires owner-of-requires owner-of-requires-2 way-of-requires way-of-requires-2 compared-requires returns)
+    (tie.spec numbers-of-requires owner-of-requires owner-of-requires-2 way-of-requires way-of-requires-2 compared-requires returns)

@@ -2,9 +2,12 @@
 -- Assumes nothing.
 use mathlib.Core.Path.{_≡_, sym, _∙_}
 use mathlib.Core.Bool.{Bool, true, false}
+use mathlib.Core.List.{List}
 use mathlib.Core.Option.{Option}
+use Prim.Native.Nat.{ℕ}
 use borrow.Author.Needs.{needs}
 use Rattle.ring.specs.Phases.{Gap}
+use Rattle.rules.specs.Setups.{setupWith}
 use Rattle.rules.specs.Model.{Row, says, accepted}
 use Rattle.comparing.specs.Ways.{WayOf}
 use Rattle.comparing.specs.Answers.{beforeBy}
@@ -13,14 +16,14 @@ use Rattle.comparing.proofs.told.Statement.{statement}
 use Rattle.comparing.proofs.told.Tie as tie
 
 returns : tie.Need-returns
-returns c g e f h = before-out _ g _ _ e f _ h (sym (c .before .out-of-reach .ensures) ∙ c .if1 .taken)
+returns c l g e f h = before-out (setupWith _ l) g _ _ e f _ h (sym (c .before .out-of-reach .ensures l) ∙ c .if1 .taken)
 
 -- within reach, the answer is what was asked
-said : (c : tie.After-is-before) (t : Bool) → c .is-before .result ≡ t → (g : Option Gap) (e f : Row)
+said : (c : tie.After-is-before) (t : Bool) → c .is-before .result ≡ t → (l : List ℕ) (g : Option Gap) (e f : Row)
     → (let a = c .before .before .before .args in
-    WayOf (a .setup) g (a .owner) e f (a .there) → accepted (says t) ≡ beforeBy g (a .owner) (a .other) e f)
-said c t q g e f h =
-    before-told _ g _ _ e f _ h (sym (c .before .before .out-of-reach .ensures) ∙ c .before .if1 .left) t
+    WayOf (setupWith (a .setup) l) g (a .owner) e f (a .there) → accepted (says t) ≡ beforeBy g (a .owner) (a .other) e f)
+said c t q l g e f h =
+    before-told (setupWith _ l) g _ _ e f _ h (sym (c .before .before .out-of-reach .ensures l) ∙ c .before .if1 .left) t
     (sym q ∙ c .is-before .ensures e f (h .clocks))
 
 returns-2 : tie.Need-returns-2

@@ -24,7 +24,7 @@ loop-again c =
     let d = c .before .before .before .before .before .before .before .before .desks-of .ensures in
     let x = rw d at (c .before .before .before .before .of-desk .ensures) in
     let y = rw (d, c .before .before .before .phase-at .ensures) at (c .before .before .of-desk2 .ensures) in
-    let z = rw d at (c .of-desk3 .ensures) in
+    let z = rw (d, c .before .tag-b .ensures) at (c .of-desk3 .ensures) in
     (omega arith, limits-more _ (h .limits) (h .j) _ _ _ (h .inv .1) (omega arith) x y z)
 
 returns : tie.Need-returns Inv-loop μ-loop

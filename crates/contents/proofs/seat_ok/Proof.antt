@@ -13,7 +13,7 @@ unfolding recordOk seatOk allOf
 returns c =
     let t = c .before .before in
     rw (recordOk, lt-ltb (t .before .before .before .args .k) 8 (omega arith), seatOk)
-    (rw (c .seat-near .ensures, c .before .seat-rest .ensures, t .tag-b .ensures, t .before .tag-a .ensures))
+    (rw (c .seat-near .ensures, c .before .seat-rest .ensures, t .seat-limit .ensures, t .before .tag-a .ensures))
 
 pub seat-ok-spec : {M : Type 1} → statement M
 seat-ok-spec =

@@ -5,9 +5,10 @@ use mathlib.Core.Path.{_≡_, refl, sym, _∙_}
 use native.Mathlib.Omega.{arith}
 use borrow.Author.Needs.{needs}
 use lib.Seq.{getD-set-other}
+use Rattle.rules.specs.Setups.{setupWith}
 use Rattle.tools.specs.Lists.{byte, Filled}
 use Rattle.tools.proofs.Lists.{filled-none, filled-more}
-use Rattle.book.specs.Layout.{bookSize, headSize}
+use Rattle.book.specs.Layout.{bookSize, headSize, headByte}
 use Rattle.fresh.proofs.Written.{written-head}
 use Rattle.fresh.proofs.write_head.Statement.{statement}
 use Rattle.fresh.proofs.write_head.Tie as tie
@@ -42,10 +43,11 @@ same-length : tie.Need-same-length Inv-loop μ-loop
 same-length c = c .before .loop .inv .1 .size ∙ sym (c .before .before .before .before .pre .0 .size)
 
 returns : tie.Need-returns Inv-loop μ-loop
-returns c =
+unfolding headByte
+returns c l =
     let h = c .before in
     let e : h .loop .i ≡ headSize = omega arith in
-    written-head (h .before .before .before .args .s) (h .loop .book) _ (h .before .head-of .ensures) (rw e at (h .loop .inv .1))
+    written-head (setupWith (h .before .before .before .args .s) l) (h .loop .book) _ (h .before .head-of .ensures) (rw e at (h .loop .inv .1))
     (h .loop .inv .2)
 
 pub write-head-spec : {M : Type 1} → statement M

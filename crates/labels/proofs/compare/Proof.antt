@@ -1,23 +1,24 @@
 -- `labels::compare` meets its contract.
 -- Assumes nothing.
 use borrow.Author.Needs.{needs}
+use Rattle.rules.specs.Setups.{setupWith}
 use Rattle.labels.specs.Asked.{Owned}
-use Rattle.labels.proofs.Answered.{flipped, compare-refused, within-bytes, compare-answered}
+use Rattle.labels.proofs.Answered.{ready, flipped, compare-refused, within-bytes, compare-answered}
 use Rattle.labels.proofs.compare.Statement.{statement}
 use Rattle.labels.proofs.compare.Tie as tie
 
 -- both records read
 owned : (c : tie.After-known-told2)
-    → (let a = c .before .before .before .before .before .before .args in
+    → (let a = c .before .before .before .before .before .before .before .args in
     let w = c .before .owners2 .given .0 in
-    Owned (a .setup) (a .first .now) (a .second .now) (w .0) (w .1 .0))
+    Owned (setupWith (a .setup) (a .limits .now)) (a .first .now) (a .second .now) (w .0) (w .1 .0))
 owned c = rw (c .before .owners2 .given .1) at (c .before .before .before .owners-of .ensures)
 
 way-requires : tie.Need-way-requires
-way-requires c κs = let h = owned c in (h .both, h .first)
+way-requires c κs = let h = owned c in ready _ _ _ _ _ (h .both) (h .first)
 
 way-requires-2 : tie.Need-way-requires-2
-way-requires-2 c κs = let h = owned (c .before) in (flipped (h .both), h .second)
+way-requires-2 c κs = let h = owned (c .before) in ready _ _ _ _ _ (flipped (h .both)) (h .second)
 
 compared-requires : tie.Need-compared-requires
 compared-requires c κs = within-bytes _ _ _ _ _ (owned (c .before .before))
@@ -29,8 +30,10 @@ returns c =
 
 returns-2 : tie.Need-returns-2
 returns-2 c =
-    compare-answered _ _ _ _ _ (owned (c .before .before .before)) _
-    (c .compared .ensures _ _ _ _ (c .before .before .way .ensures) (c .before .way2 .ensures))
+    let h = owned (c .before .before .before) in
+    compare-answered _ _ _ _ _ h _
+    (c .compared .ensures _ _ _ _ _ (c .before .before .way .ensures _ (h .both) (h .first))
+    (c .before .way2 .ensures _ (flipped (h .both)) (h .second)))
 
 pub compare-spec : {M : Type 1} → statement M
 compare-spec =

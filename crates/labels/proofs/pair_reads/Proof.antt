@@ -5,22 +5,28 @@ use native.Mathlib.Omega.{arith}
 use borrow.Author.Needs.{needs}
 use Rattle.book.specs.Layout.{rowSpot, phaseSpot, clockSpot}
 use Rattle.labels.proofs.Records.{label-pair}
-use Rattle.labels.proofs.Limits.{pair-up-to}
+use Rattle.labels.proofs.Limits.{pair-counted}
 use Rattle.labels.proofs.pair_reads.Statement.{statement}
 use Rattle.labels.proofs.pair_reads.Tie as tie
 
 returns : tie.Need-returns
 returns c X h =
-    let a = c .before .before .before .before .before .before .before .args in
-    let k = c .before .before .before .before in
+    let k = c .before .before .before .before .before .before in
+    let a = k .before .before .before .args in
     let j = a .j in
-    let byte = c .before .shared-slice-known3 .given in
-    rw (label-pair (a .bytes .now) j (omega arith), k .before .phase-spot .ensures, k .clock-spot .ensures)
-    (pair-up-to X _ h j (omega arith) _ _ (omega (arith, byte (rowSpot + phaseSpot j))) (omega (arith, byte (rowSpot + clockSpot j))))
+    let byte = c .before .before .shared-slice-known3 .given in
+    rw (
+      label-pair (a .bytes .now) j (omega arith),
+      c .before .number2 .ensures,
+      c .before .before .before .before .number .ensures,
+      k .before .phase-spot .ensures,
+      k .clock-spot .ensures,
+    )
+    (pair-counted X _ j _ _ h (omega arith) (omega (arith, byte (rowSpot + phaseSpot j))) (omega (arith, byte (rowSpot + clockSpot j))))
 
 pub pair-reads-spec : {M : Type 1} → statement M
 pair-reads-spec =
     tie.close
     (tie.spec
-    (λ c κs. search needs) (λ c κs. search needs) (λ c. search needs) (λ c. search needs) (λ c. search needs) (λ c. search needs)
-    (λ c. search needs) (λ c. search needs) returns)
+    (λ c κs. search needs) (λ c κs. search needs) (λ c. search needs) (λ c. search needs) (λ c κs. search needs) (λ c. search needs)
+    (λ c. search needs) (λ c. search needs) (λ c. search needs) (λ c κs. search needs) (λ c. search needs) (λ c. search needs) returns)

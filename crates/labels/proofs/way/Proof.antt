@@ -6,45 +6,42 @@ use mathlib.Core.Path.{_≡_}
 use Rattle.tools.specs.Lists.{byte}
 use Rattle.ring.proofs.Ring.{lag-below}
 use Rattle.book.specs.Layout.{rowSpot, phaseSpot, clockSpot}
-use Rattle.labels.proofs.Answered.{Ready, ready, way-ahead, way-back}
+use Rattle.rules.specs.Setups.{setupWith}
+use Rattle.labels.proofs.Answered.{way-ahead, way-back}
 use borrow.Author.Needs.{needs}
 use Rattle.labels.proofs.way.Statement.{statement}
 use Rattle.labels.proofs.way.Tie as tie
 
--- both records read, and the owner is a desk
-asks : (c : tie.Start) → Ready (c .args .setup) (c .args .first .now) (c .args .second .now) (c .args .owner)
-asks c = ready _ _ _ _ (c .pre .0) (c .pre .1)
-
 phase-spot-requires : tie.Need-phase-spot-requires
-phase-spot-requires c κs = let r = asks (c .before .before .before) in omega (arith, c .wide .ensures)
+phase-spot-requires c κs = let r = c .before .before .before .pre in omega (arith, c .wide .ensures)
 
 clock-spot-requires : tie.Need-clock-spot-requires
-clock-spot-requires c κs = let r = asks (c .before .before .before .before) in omega (arith, c .before .wide .ensures)
+clock-spot-requires c κs = let r = c .before .before .before .before .pre in omega (arith, c .before .wide .ensures)
 
 shared-slice-read-from : tie.Need-shared-slice-read-from
-shared-slice-read-from c = let r = asks (c .before .before .before .before .before .before) in omega arith
+shared-slice-read-from c = let r = c .before .before .before .before .before .before .pre in omega arith
 
 shared-slice-read-to : tie.Need-shared-slice-read-to
-shared-slice-read-to c = let r = asks (c .before .before .before .before .before .before .before) in omega arith
+shared-slice-read-to c = let r = c .before .before .before .before .before .before .before .pre in omega arith
 
 cast-p : tie.Need-cast-p
-cast-p c = let r = asks (c .before .before .before .before .before .before .before .before) in omega arith
+cast-p c = let r = c .before .before .before .before .before .before .before .before .pre in omega arith
 
 cast-n : tie.Need-cast-n
-cast-n c = let r = asks (c .before .before .before .before .before .before .before .before .before) in omega arith
+cast-n c = let r = c .before .before .before .before .before .before .before .before .before .pre in omega arith
 
 shared-slice-read-first-phase : tie.Need-shared-slice-read-first-phase
 shared-slice-read-first-phase c =
-    let r = asks (c .before .before .before .before .before .before .before .before .before .before) in omega arith
+    let r = c .before .before .before .before .before .before .before .before .before .before .pre in omega arith
 
 shared-slice-read-second-phase : tie.Need-shared-slice-read-second-phase
 shared-slice-read-second-phase c =
-    let r = asks (c .before .before .before .before .before .before .before .before .before .before .before) in omega arith
+    let r = c .before .before .before .before .before .before .before .before .before .before .before .pre in omega arith
 
 lag-requires : tie.Need-lag-requires
 lag-requires c κs =
     let w = c .before .before .before .before .before .before .before in
-    let r = asks (w .before .before .before .before) in
+    let r = w .before .before .before .before .pre in
     rw (w .phase-spot .ensures, w .before .wide .ensures) (r .second, r .first)
 
 -- what came in, where its clock was looked for
@@ -61,23 +58,21 @@ clock-stands : (c : tie.After-lag) → 4 + seen c .clock-spot .result ≡ rowSpo
 clock-stands c = omega (arith, seen c .clock-spot .ensures, seen c .before .before .wide .ensures)
 
 returns : tie.Need-returns
-returns c =
-    let s = entry (c .before) in
-    way-ahead _ _ _ _ (s .pre .0) (s .pre .1) _ _ (phase-stands (c .before)) (clock-stands (c .before)) _ (c .before .lag .ensures)
+returns c l h own =
+    way-ahead (setupWith _ l) _ _ _ h own _ _ (phase-stands (c .before)) (clock-stands (c .before)) _ (c .before .lag .ensures)
     (omega arith)
 
 sub-t17 : tie.Need-sub-t17
 sub-t17 c =
     let a = entry (c .before) .args in
-    let r = asks (entry (c .before)) in
+    let r = entry (c .before) .pre in
     let i = rowSpot + seen (c .before) .before .phase-spot .result in
     let on : byte (a .second .now) i < a .setup .phases = rw (phase-stands (c .before)) (r .second) in
     omega (arith, lag-below (a .setup .phases) (byte (a .second .now) i) (byte (a .first .now) i) on, c .before .lag .ensures)
 
 returns-2 : tie.Need-returns-2
-returns-2 c =
-    let s = entry (c .before) in
-    way-back _ _ _ _ (s .pre .0) (s .pre .1) _ _ (phase-stands (c .before)) (clock-stands (c .before)) _ (c .before .lag .ensures)
+returns-2 c l h own =
+    way-back (setupWith _ l) _ _ _ h own _ _ (phase-stands (c .before)) (clock-stands (c .before)) _ (c .before .lag .ensures)
     (omega arith)
 
 pub way-spec : {M : Type 1} → statement M

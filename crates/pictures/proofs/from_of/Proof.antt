@@ -5,8 +5,9 @@ use Prim.Native.Nat.{ℕ, _+_, _<_}
 use native.Mathlib.Omega.{arith}
 use Rattle.tools.specs.Lists.{byte}
 use Rattle.ring.specs.Phases.{lagOf}
+use Rattle.rules.specs.Setups.{Setup, setupWith}
 use Rattle.rules.specs.Model.{byIn}
-use Rattle.book.specs.Layout.{records, shelfFrom, rowSpot, phaseSpot, spot}
+use Rattle.book.specs.Layout.{records, shelfFrom, limitsOf, rowSpot, phaseSpot, spot}
 use Rattle.book.specs.Numbers.{tablesOf}
 use Rattle.book.proofs.Below.{phase-below}
 use Rattle.asking.proofs.Slots.{slot-place, slot-eight}
@@ -17,6 +18,10 @@ use Rattle.pictures.proofs.from_of.Tie as tie
 
 abbrev entry : tie.After-wide → tie.Start
 entry c = c .before .before .before
+
+-- the setup, with the limits in the book
+abbrev at : tie.Start → Setup
+at a = setupWith (a .args .setup) (limitsOf (a .args .book .now))
 
 -- the owner of the stamp
 owner : (c : tie.After-wide) → c .wide .result ≡ byIn (tablesOf (entry c .args .book .now) .shelf (entry c .args .slot))
@@ -60,18 +65,18 @@ clock-at-requires c κs =
 least-requires : tie.Need-least-requires
 least-requires c κs =
     let a = entry (c .before .before .before .before .before) in
-    reach-bytes (a .args .book .now) (a .args .setup) (a .pre .0 .2) (a .pre .0 .1) .0
+    reach-bytes (a .args .book .now) (at a) (a .pre .0 .2) (a .pre .0 .1) .0
 
 reach-back-requires : tie.Need-reach-back-requires
 reach-back-requires c κs =
     let a = entry (c .before .before .before .before .before .before) in
-    omega (arith, reach-bytes (a .args .book .now) (a .args .setup) (a .pre .0 .2) (a .pre .0 .1) .1)
+    omega (arith, reach-bytes (a .args .book .now) (at a) (a .pre .0 .2) (a .pre .0 .1) .1)
 
 most-requires : tie.Need-most-requires
 most-requires c κs =
     let a = entry (c .before .before .before .before .before .before .before) in
-    back-bytes (a .args .setup) _ _ (c .reach-back .ensures)
-    (reach-bytes (a .args .book .now) (a .args .setup) (a .pre .0 .2) (a .pre .0 .1) .1)
+    back-bytes (at a) _ _ (c .reach-back .ensures (limitsOf (a .args .book .now)))
+    (reach-bytes (a .args .book .now) (at a) (a .pre .0 .2) (a .pre .0 .1) .1)
 
 returns : tie.Need-returns
 returns c =
@@ -80,10 +85,10 @@ returns c =
     let p = c .before .before .before .before .before .phases-of .ensures in
     let o = c .before .before .before .before .before .before .before .phase-at .ensures in
     let e = c .before .before .before .before .before .before .phase-at2 .ensures in
-    from-is (a .args .book .now) (a .args .slot) (a .args .setup) (a .pre .0 .2) (g .wide .result) (owner g)
+    from-is (a .args .book .now) (a .args .slot) (at a) (a .pre .0 .2) (g .wide .result) (owner g)
     _ _ _ _ _ _ (g .before .owner-of .ensures) o (c .before .before .before .before .lag .ensures ∙ (λ t. lagOf (p t) (o t) (e t)))
     (c .before .before .before .clock-at .ensures) (c .before .before .least .ensures)
-    _ (c .before .reach-back .ensures) (c .most .ensures)
+    _ (c .before .reach-back .ensures (limitsOf (a .args .book .now))) (c .most .ensures)
 
 pub from-of-spec : {M : Type 1} → statement M
 from-of-spec =

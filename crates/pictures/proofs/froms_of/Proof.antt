@@ -4,7 +4,8 @@ use Prim.Native.Nat.{_-_, _≤_, _<_}
 use mathlib.Core.Path.{_≡_, refl, subst}
 use native.Mathlib.Omega.{arith}
 use lib.ListN.{length}
-use Rattle.book.specs.Layout.{setupOf}
+use Rattle.rules.specs.Setups.{setupWith}
+use Rattle.book.specs.Layout.{limitsOf, setupOf}
 use Rattle.pictures.specs.Froms.{Table}
 use Rattle.pictures.proofs.Tabled.{table-none, stamp-more}
 use borrow.Author.Needs.{needs}
@@ -12,16 +13,16 @@ use Rattle.pictures.proofs.froms_of.Statement.{statement}
 use Rattle.pictures.proofs.froms_of.Tie as tie
 
 abbrev Inv-loop : tie.InvT-loop
-Inv-loop book slots setup froms₀ i₀ froms i = (i ≤ length slots) × Table book slots i froms × (setup ≡ setupOf book)
+Inv-loop book slots setup froms₀ i₀ froms i = (i ≤ length slots) × Table book slots i froms × (setupWith setup (limitsOf book) ≡ setupOf book)
 
 abbrev μ-loop : tie.MeasureT-loop
 μ-loop book slots setup froms₀ i₀ froms i = length slots - i
 
-setup-of-requires : tie.Need-setup-of-requires Inv-loop μ-loop
-setup-of-requires c κs = c .before .before .pre .size
+numbers-of-requires : tie.Need-numbers-of-requires Inv-loop μ-loop
+numbers-of-requires c κs = c .before .before .pre .size
 
 loop-holds : tie.Need-loop-holds Inv-loop μ-loop
-loop-holds c = (omega arith, table-none _ _ _ refl, c .setup-of .ensures)
+loop-holds c = (omega arith, table-none _ _ _ refl, c .numbers-of .ensures)
 
 -- the place in the list is one of eight
 eight : (c : tie.In-loop Inv-loop μ-loop) → c .before .loop .i < 8
@@ -51,7 +52,7 @@ pub froms-of-spec : {M : Type 1} → statement M
 froms-of-spec =
     tie.close
     (tie.spec
-    Inv-loop μ-loop setup-of-requires loop-holds (λ c. search needs) (λ c. search needs) from-of-requires
+    Inv-loop μ-loop numbers-of-requires loop-holds (λ c. search needs) (λ c. search needs) from-of-requires
     (λ c. omega (arith, eight (c .before .before)))
     (λ c. omega (arith, eight (c .before .before))) (λ c. omega (arith, eight (c .before .before)))
     (λ c. omega (arith, eight (c .before .before))) (λ c. omega (arith, eight (c .before .before)))

@@ -1,25 +1,37 @@
 -- `setups::permits` meets its contract.
 -- Assumes nothing.
-use mathlib.Core.Path.{sym, _∙_}
+use mathlib.Core.Path.{_≡_, refl, sym, _∙_}
+use mathlib.Core.Bool.{Bool, true, false, _&&_}
+use mathlib.Core.List.{List, []}
+use Prim.Native.Nat.{ℕ}
 use borrow.Author.Tests.{not-true, not-false}
-use Rattle.rules.specs.Setups.{related, permits}
-use Rattle.rules.proofs.Setups.{ranged}
 use borrow.Author.Needs.{needs}
+use Rattle.tools.specs.Tests.{allOf}
+use Rattle.rules.specs.declared.SetupNumbers.{SetupNumbers}
+use Rattle.rules.specs.Setups.{setupWith, inRange, related, limited, permits}
 use Rattle.setups.proofs.permits.Statement.{statement}
 use Rattle.setups.proofs.permits.Tie as tie
 
-returns : tie.Need-returns
-unfolding permits
-returns c = rw (permits, sym (c .before .in-range .ensures) ∙ not-true _ (c .if1 .taken))
+joined : (a b c t r : Bool) → t ≡ (a && b) → r ≡ (t && c) → r ≡ (a && (b && c))
+joined true b c t r e h = rw e at h
+joined false b c t r e h = rw e at h
 
-related-requires : tie.Need-related-requires
-related-requires c κs =
-    let r = ranged _ (sym (c .before .in-range .ensures) ∙ not-false _ (c .if1 .left)) in
-    ((r .seatLag .1, r .shelfLag, r .phases), (r .back .1, r .ahead .1))
+-- the numbers are asked first, and they are the same beside any limits
+by-two : (s : SetupNumbers) (l : List ℕ) (t r : Bool) → t ≡ (inRange (setupWith s []) && related (setupWith s []))
+    → r ≡ (t && limited (setupWith s l)) → r ≡ permits (setupWith s l)
+unfolding permits allOf inRange related
+by-two s l t r e h = joined (inRange (setupWith s [])) (related (setupWith s [])) (limited (setupWith s l)) t r e h
+
+returns : tie.Need-returns
+returns c =
+    let x = c .before .before .before .args in
+    by-two (x .s) (x .limits .now) false _ (sym (not-true _ (c .if1 .taken)) ∙ c .before .numbers-ok .ensures) refl
 
 returns-2 : tie.Need-returns-2
-unfolding permits
-returns-2 c = rw (permits, sym (c .before .before .in-range .ensures) ∙ not-false _ (c .before .if1 .left)) (c .related .ensures)
+returns-2 c =
+    let h = c .before .before in
+    let x = h .before .before .args in
+    by-two (x .s) (x .limits .now) true _ (sym (not-false _ (c .before .if1 .left)) ∙ h .numbers-ok .ensures) (c .limited .ensures)
 
 pub permits-spec : {M : Type 1} → statement M
-permits-spec = tie.close (tie.spec (λ c κs. search needs) returns related-requires returns-2)
+permits-spec = tie.close (tie.spec (λ c κs. search needs) returns (λ c κs. search needs) returns-2)

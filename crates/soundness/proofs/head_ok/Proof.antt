@@ -12,4 +12,4 @@ returns c = rw (headOk, c .spare-zero .ensures)
 
 pub head-ok-spec : {M : Type 1} → statement M
 head-ok-spec =
-    tie.close (tie.spec (λ c. search needs) (λ c. search needs) (λ c κs. search needs) returns)
+    tie.close (tie.spec (λ c. search needs) (λ c. search needs) (λ c. search needs) (λ c κs. search needs) returns)
