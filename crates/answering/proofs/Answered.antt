@@ -8,32 +8,42 @@
 --   blind        a line's answer goes by the bytes of it that are kept
 --   bad-line     a BadLine prints its number, and makes no call
 --   long-line, no-line   a line over 64 bytes, and an empty one, is a BadLine
+--   bad-setup    a start that is not permitted prints BadSetup, and changes no byte
+--   bad-desks    so does every start whose D is outside 2 to 8, however many limits it has
+--   miscount     a start whose limits are miscounted is a BadLine
 --   line-no-event   NoEvent is answered to no line
 use Prim.Native.Nat.{ℕ, zero, suc, _≤_, _<_}
 use mathlib.Core.Path.{_≡_, refl, sym, ap, subst, _∙_}
 use mathlib.Core.Bool.{Bool, true, false}
-use mathlib.Core.List.{List, [], _∷_, _++_}
+use mathlib.Core.List.{List, [], _∷_, _++_, cons≢nil}
 use mathlib.Core.Option.{Option, none, some}
 use native.Mathlib.Omega.{arith}
 use lib.ListN.{length}
-use Rattle.tools.specs.Tests.{allOf, allBelow}
+use Rattle.tools.specs.Tests.{allOf, allBelow, within}
 use Rattle.tools.specs.Lists.{byte}
+use Rattle.tools.proofs.Tests.{not-each}
+use Rattle.rules.specs.Setups.{Setup, inRange, permits}
 use Rattle.rules.specs.Model.{Act, Answer}
-use Rattle.rules.specs.Calls.{Call, on}
+use Rattle.rules.specs.Calls.{Call, start, on}
 use Rattle.rules.specs.Numbers.{NoEvent, number}
+use Rattle.book.specs.Layout.{bookSize}
 use Rattle.book.specs.Sound.{sound}
+use Rattle.book.specs.Codec.{decode}
 use Rattle.book.specs.Answers.{admits, answerTo, bookAfter}
 use Rattle.book.specs.Numbers.{tablesOf, numberOf}
 use Rattle.book.proofs.Answers.{never-no-event}
 use Rattle.book.proofs.Codec.{decode-holds}
 use Rattle.book.proofs.Numbers.{doneOn, accepted-bytes, refused-bytes, ready}
 use Rattle.book.proofs.Told.{few-desks}
+use Rattle.portal.proofs.Started.{start-badsetup}
 use Rattle.text.proofs.Streams.{Blind}
 use Rattle.text.specs.Words.{ascii, opens}
 use Rattle.text.specs.Put.{Wrote}
 use Rattle.commands.specs.declared.Command.{Command}
-use Rattle.commands.specs.Lines.{shaped, verbs, pictureOf, choose, parseOf, callOf}
+use Rattle.commands.specs.Lines.{shaped, miscounted, verbs, asks, choose, parseOf, callOf}
+use Rattle.commands.specs.Written.{numbersOf, textOf, Spoken, Small}
 use Rattle.commands.proofs.Shapes.{sift, long-bad, kept-enough}
+use Rattle.commands.proofs.Exact.{written, bad-count}
 use Rattle.replies.specs.Print.{answerText, Printable}
 use Rattle.answering.specs.Answering.{answerOf, bookOf, callText, lineText, lineBook, answering}
 
@@ -87,8 +97,27 @@ pub long-line : (b l : List ℕ) → 64 < length l → (lineText b l ≡ ascii "
 long-line b l h = bad-line b l (long-bad l (omega arith))
 
 pub no-line : (b : List ℕ) → (lineText b [] ≡ ascii "017" ++ (10 ∷ [])) × (lineBook b [] ≡ b)
-unfolding choose verbs pictureOf opens allBelow shaped allOf
-no-line b = bad-line b [] (sift [])
+unfolding choose verbs asks opens allBelow shaped allOf
+no-line b = bad-line b [] (sift [] (omega arith))
+
+-- a start that is written out, on a book of the right length
+module _ (b : List ℕ) (X : Setup) (e : length b ≡ bookSize) (s : Small (numbersOf (start X))) where
+  pub bad-setup : permits X ≡ false → Spoken (start X)
+      → (lineText b (textOf (start X)) ≡ ascii "002" ++ (10 ∷ [])) × (lineBook b (textOf (start X)) ≡ b)
+  unfolding lineText lineBook
+  bad-setup p g =
+      let w = written (start X) g s in
+      let t = start-badsetup b X e p in
+      (ap (callText b) w ∙ ap (answerText (decode b .setup .desks)) (sym (t .0)), ap (bookOf b) w ∙ sym (t .1))
+
+  pub bad-desks : within 2 8 (X .desks) ≡ false → length (textOf (start X)) ≤ 64
+      → (lineText b (textOf (start X)) ≡ ascii "002" ++ (10 ∷ [])) × (lineBook b (textOf (start X)) ≡ b)
+  unfolding permits inRange miscounted
+  bad-desks d h = bad-setup (not-each _ 0 (not-each _ 0 d)) (cons≢nil, rw (miscounted, d), h)
+
+pub miscount : (b : List ℕ) (X : Setup) → miscounted X ≡ true → Small (numbersOf (start X))
+    → (lineText b (textOf (start X)) ≡ ascii "017" ++ (10 ∷ [])) × (lineBook b (textOf (start X)) ≡ b)
+miscount b X m s = bad-line b (textOf (start X)) (bad-count X m s)
 
 pub line-no-event : (b l : List ℕ) → answerOf b (parseOf l) .number ≡ number NoEvent → ⊥
 line-no-event b l = go (parseOf l)

@@ -2,22 +2,35 @@
 ghost use mathlib.Core.Path.{_≡_};
 ghost use Prim.Native.Nat.{_+_, _*_, _≤_};
 ghost use lib.ListN.{length};
+ghost use Rattle.rules.specs.Setups.{setupWith};
 ghost use Rattle.rules.specs.Model;
-ghost use Rattle.rules.specs.Calls.{on};
+ghost use Rattle.rules.specs.Model.{refusal};
+ghost use Rattle.rules.specs.Calls.{start, on};
 ghost use Rattle.rules.specs.Replies.{picturedSays};
-ghost use Rattle.book.specs.Answers.{answerTo};
+ghost use Rattle.book.specs.Answers.{answerTo, bookAfter};
 ghost use Rattle.text.specs.Digits.{numbersAt};
 ghost use Rattle.text.specs.Put.{Wrote};
-ghost use Rattle.commands.specs.Lines.{parseOf, callOf};
+ghost use Rattle.commands.specs.Lines.{parseOf, limitsAt, slotsAt, callOf};
 ghost use Rattle.replies.specs.Print.{longest};
 ghost use Rattle.answering.specs.Answering.{lineText, lineBook};
 use commands::Command;
 use rules::Pictured;
+use rules::SetupNumbers;
+
+// Start, with the limits of a line that has so many.
+fn begin(book: &mut [u8], line: &[u8], s: SetupNumbers, count: usize) -> u8
+    requires { ⌜ (count ≤ 8) × (limitsAt + 4 * count ≤ length (now line)) ⌝ }
+    ensures { λ r. ⌜ refusal r ≡ answerTo (now (book .entry)) (start (setupWith s (numbersAt (now (line .entry)) limitsAt count))) ⌝ }
+    ensures { λ _. ⌜ now (book .exit) ≡ bookAfter (now (book .entry)) (start (setupWith s (numbersAt (now (line .entry)) limitsAt count))) ⌝ }
+{
+    let limits = commands::limits_of(line, count);
+    portal::start(book, s, &limits[0..count])
+}
 
 // Picture, of the slots of a line that has so many.
 fn ask_picture(book: &[u8], line: &[u8], count: usize) -> Pictured
-    requires { ⌜ (count ≤ 14) × (7 + 4 * count ≤ length (now line)) ⌝ }
-    ensures { λ r. ⌜ picturedSays r ≡ answerTo (now (book .entry)) (on (Model.picture (numbersAt (now (line .entry)) 7 count))) ⌝ }
+    requires { ⌜ (count ≤ 14) × (slotsAt + 4 * count ≤ length (now line)) ⌝ }
+    ensures { λ r. ⌜ picturedSays r ≡ answerTo (now (book .entry)) (on (Model.picture (numbersAt (now (line .entry)) slotsAt count))) ⌝ }
 {
     let slots = commands::slots_of(line, count);
     portal::picture(book, &slots[0..count])
@@ -31,7 +44,7 @@ fn obey(book: &mut [u8], out: &mut [u8], at: usize, line: &[u8], c: Command) -> 
 {
     let desks = portal::desks_in(&book[..]);
     match c {
-        Command::Start(s) => replies::put_number(out, at, portal::start(book, s)),
+        Command::Start(s, n) => replies::put_number(out, at, begin(book, line, s, n)),
         Command::Local(d, q) => replies::put_stamped(out, at, desks, portal::local(book, d, q)),
         Command::Send(d, k, q) => replies::put_sent(out, at, desks, portal::send(book, d, k, q)),
         Command::Receive(d, p, q) => replies::put_received(

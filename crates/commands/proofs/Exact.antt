@@ -1,36 +1,41 @@
 -- The parser is exact: a call that is written out is read back, and a line that is read is its call written out.
 -- Assumes nothing.
 --   written   a call that has a line, its numbers of at most three digits, is read as itself where it is written out
+--   bad-count a start whose limits are miscounted, written out, is read as no call
 --   reads     a line that is read as a call is that call written out
+--   start-fits     where a line asks for a start, it has room for as many limits, and these are at most 8
 --   picture-fits   where a line asks for a picture, it has room for as many slots, and these are at most 14
 use Prim.Native.Nat.{ℕ, zero, suc, _+_, _*_, _-_, _/_, _%_, _<_, _≤_}
 use mathlib.Core.Path.{_≡_, refl, sym, ap, subst, _∙_}
-use mathlib.Core.Bool.{Bool, true, false, _&&_}
+use mathlib.Core.Bool.{Bool, true, false}
 use mathlib.Core.List.{List, [], _∷_, _++_}
 use mathlib.Core.Option.{none, some}
-use mathlib.Core.Logic.{_⊎_, inl, inr, ⊎-elim}
+use mathlib.Core.Logic.{⊎-elim}
 use native.Mathlib.Nat.{not-suc-le-zero, le-of-suc-le-suc, add-zero}
 use native.Mathlib.Omega.{arith}
-use borrow.Author.Tests.{eqb-true, eq-eqb, lt-ltb, le-leb}
-use lib.Dec.{leb}
+use borrow.Author.Tests.{eqb-true, eq-eqb, lt-ltb, le-leb, leb-true}
+use lib.Dec.{eqb, leb}
 use lib.ListN.{length, length-append, List·getD-append}
 use lib.Seq.{ext-getD, getD-append-add}
 use Rattle.tools.specs.Tests.{pick, allOf, allBelow, within}
 use Rattle.tools.specs.Lists.{byte, tab}
-use Rattle.tools.proofs.Tests.{each, all-at, all-in, lt-or-le, and-true-r}
+use Rattle.tools.proofs.Tests.{each, all-at, all-in, lt-or-le, pick-true, pick-false, and-true-l, and-true-r}
 use Rattle.tools.proofs.Tables.{some-is, none-some}
 use Rattle.tools.proofs.Lists.{length-tab, tab-at, is-tab}
 use Rattle.text.specs.Words.{ascii, opens}
 use Rattle.text.specs.Digits.{isDigit, isNumber, numberAt, numbersAt}
 use Rattle.text.specs.Put.{field}
 use Rattle.text.proofs.Numerals.{Digits, digits}
-use Rattle.rules.specs.Model.{askBefore, askCompare, askPicture, askShow, askWrite, Act, local, send, receive, reset, drop, discard}
-use Rattle.rules.specs.Model.{ask, picture}
+use Rattle.rules.specs.Setups.{Setup}
+use Rattle.rules.specs.Model.{askBefore, askCompare, askPicture, askShow, askWrite, Act, local, send, receive, reset, drop, discard, ask}
 use Rattle.rules.specs.Calls.{Call, start, on}
-use Rattle.commands.specs.declared.Command.the-variants.{Picture}
-use Rattle.commands.specs.Lines.{shaped, Verb, wish, verbs, slotCount, pictureOf, choose, parseOf, callOf}
-use Rattle.commands.specs.Written.{fields, wishNumber, numbersOf, textOf, Spoken, Small}
+use Rattle.rules.specs.declared.SetupNumbers.{SetupNumbers}
+use Rattle.commands.specs.declared.Command.the-variants.{Start, Picture}
+use Rattle.commands.specs.Lines.{shaped, countAfter, Verb, wish, setupFrom, miscounted, startOf, verbs, asks, choose, parseOf}
+use Rattle.commands.specs.Lines.{limitsAt, slotsAt, callOf}
+use Rattle.commands.specs.Written.{fields, wordOf, wishNumber, numbersOf, textOf, Spoken, Small}
 use Rattle.commands.proofs.Shapes.{sized, number-there, sift, long-bad}
+use Rattle.commands.proofs.Starts.{setup-back, setup-whole}
 
 fields-length : (ns : List ℕ) → length (fields ns) ≡ 4 * length ns
 fields-length [] = refl
@@ -101,48 +106,45 @@ module _ (w ns : List ℕ) where
   numbers-back : Small ns → numbersAt (w ++ fields ns) (length w) (length ns) ≡ ns
   numbers-back s = sym (is-tab (length ns) _ ns refl (λ i l. sym (is-worth i l (s i l))))
 
-own : (v : Verb) (vs : List Verb) (ns : List ℕ) → v .count ≡ length ns → Small ns → choose (v ∷ vs) (v .word ++ fields ns) ≡ v .made ns
-unfolding choose
-own v vs ns e s = rw (choose, e, is-shaped (v .word) ns s, numbers-back (v .word) ns s)
+  count-back : countAfter (w ++ fields ns) w ≡ length ns
+  count-back = simp length-append (omega (arith, fields-length ns))
+
+own : (v : Verb) (vs : List Verb) (ns : List ℕ) → v .takes (length ns) ≡ true → Small ns → choose (v ∷ vs) (v .word ++ fields ns) ≡ v .made ns
+unfolding choose asks
+own v vs ns e s = rw (choose, asks, count-back (v .word) ns, e, is-shaped (v .word) ns s, numbers-back (v .word) ns s)
 
 -- a yes or no that is written out is read back
 wish-back : (q : Bool) (c : Bool → Act) → wish (wishNumber q) c ≡ some (on (c q))
 wish-back true c = refl
 wish-back false c = refl
 
--- so are the slots of a picture, as many as there are; no other verb opens its line
-slots-back
-    : (ss : List ℕ)
-    → length (textOf (on (picture ss))) ≤ 64
-    → Small ss
-    → parseOf (textOf (on (picture ss))) ≡ some (on (picture ss))
-unfolding verbs choose opens allBelow pictureOf
-slots-back ss h s =
-    let l = textOf (on (picture ss)) in
-    let e : slotCount l ≡ length ss = simp length-append (omega (arith, fields-length ss)) in
-    sift l
-    ∙ rw (
-      pictureOf,
-      le-leb (length l) 64 h,
-      e,
-      is-shaped (ascii "picture") ss s,
-      numbers-back (ascii "picture") ss s,
-    )
+-- a start that is written out is read as the call of its numbers, which make its setup
+start-line : (X : Setup) → length (textOf (start X)) ≤ 64 → Small (numbersOf (start X))
+    → parseOf (textOf (start X)) ≡ pick (miscounted X) none (some (start X))
+unfolding verbs opens allBelow startOf
+start-line X h s =
+    let ns = numbersOf (start X) in
+    sift _ h ∙ own _ _ ns (le-leb 6 (length ns) (simp length-append (omega arith))) s ∙ rw (startOf, setup-back X)
 
 pub written : (c : Call) → Spoken c → Small (numbersOf c) → parseOf (textOf c) ≡ some c
 unfolding verbs opens allBelow
-written (start x) g s = sift _ ∙ own _ _ (numbersOf (start x)) refl s
-written (on (local d q)) g s = sift _ ∙ own _ _ (numbersOf (on (local d q))) refl s ∙ wish-back q (local d)
-written (on (send d k q)) g s = sift _ ∙ own _ _ (numbersOf (on (send d k q))) refl s ∙ wish-back q (send d k)
-written (on (receive d p q)) g s = sift _ ∙ own _ _ (numbersOf (on (receive d p q))) refl s ∙ wish-back q (receive d p)
-written (on (reset d q)) g s = sift _ ∙ own _ _ (numbersOf (on (reset d q))) refl s ∙ wish-back q (reset d)
-written (on (drop d)) g s = sift _ ∙ own _ _ (d ∷ []) refl s
-written (on (discard p)) g s = sift _ ∙ own _ _ (p ∷ []) refl s
-written (on (ask (askBefore d k))) g s = sift _ ∙ own _ _ (d ∷ k ∷ []) refl s
-written (on (ask (askCompare d k))) g s = sift _ ∙ own _ _ (d ∷ k ∷ []) refl s
-written (on (ask (askPicture ss))) g s = slots-back ss (g .1) s
+written (start X) g s = start-line X (g .2) s ∙ pick-false _ _ _ (g .1)
+written (on (local d q)) g s = sift _ (g .2) ∙ own _ _ (numbersOf (on (local d q))) refl s ∙ wish-back q (local d)
+written (on (send d k q)) g s = sift _ (g .2) ∙ own _ _ (numbersOf (on (send d k q))) refl s ∙ wish-back q (send d k)
+written (on (receive d p q)) g s = sift _ (g .2) ∙ own _ _ (numbersOf (on (receive d p q))) refl s ∙ wish-back q (receive d p)
+written (on (reset d q)) g s = sift _ (g .2) ∙ own _ _ (numbersOf (on (reset d q))) refl s ∙ wish-back q (reset d)
+written (on (drop d)) g s = sift _ (g .2) ∙ own _ _ (d ∷ []) refl s
+written (on (discard p)) g s = sift _ (g .2) ∙ own _ _ (p ∷ []) refl s
+written (on (ask (askBefore d k))) g s = sift _ (g .2) ∙ own _ _ (d ∷ k ∷ []) refl s
+written (on (ask (askCompare d k))) g s = sift _ (g .2) ∙ own _ _ (d ∷ k ∷ []) refl s
+written (on (ask (askPicture ss))) g s = sift _ (g .2) ∙ own _ _ ss refl s
 written (on (ask (askShow d))) g s = absurd (g .0 refl)
 written (on (ask (askWrite d room))) g s = absurd (g .0 refl)
+
+pub bad-count : (X : Setup) → miscounted X ≡ true → Small (numbersOf (start X)) → parseOf (textOf (start X)) ≡ none
+bad-count X h s =
+    let l = textOf (start X) in
+    ⊎-elim (long-bad l) (λ (q : length l ≤ 64). start-line X q s ∙ pick-true _ _ _ h) (lt-or-le 64 (length l))
 
 -- the other way: what a shape says of a line
 digit-back : (l : List ℕ) (at : ℕ) → Digits l at → (r : ℕ) → r < 4 → byte (field (numberAt l at)) r ≡ byte l (at + r)
@@ -204,44 +206,46 @@ Says w ns c = (textOf c ≡ w ++ fields ns) × (numbersOf c ≡ ns)
 say-back : (l w : List ℕ) (n : ℕ) (h : shaped l w n ≡ true) (c : Call) → Says w (numbersAt l (length w) n) c → Written l c
 say-back l w n h c said = (shape-back l w n h ∙ sym (said .0), rw (said .1) (small-back l w n h))
 
--- a call that a verb makes of its numbers is written as the verb and these numbers
+-- a call that a verb makes of as many numbers as it takes is written as the verb and these numbers
+abbrev Makes : Verb → List ℕ → Type 0
+Makes v ns = (c : Call) → v .made ns ≡ some c → Says (v .word) ns c
+
 data Fair : List Verb → Type 0 where
   none-left : Fair []
-  more
-      : {v : Verb} {vs : List Verb}
-      → ((f : ℕ → ℕ) (c : Call) → v .made (tab 0 (v .count) f) ≡ some c → Says (v .word) (tab 0 (v .count) f) c)
-      → Fair vs
-      → Fair (v ∷ vs)
-
-picture-reads : (l : List ℕ) (c : Call) → pictureOf l ≡ some c → Written l c
-unfolding pictureOf
-picture-reads l c e = go (leb (length l) 64 && shaped l (ascii "picture") (slotCount l)) refl e
-  where
-    go
-        : (t : Bool)
-        → (leb (length l) 64 && shaped l (ascii "picture") (slotCount l)) ≡ t
-        → pick t (some (on (picture (numbersAt l 7 (slotCount l))))) none ≡ some c
-        → Written l c
-    go true h q =
-        subst (Written l) (some-is q)
-        (say-back l (ascii "picture") (slotCount l) (and-true-r (leb (length l) 64) (shaped l (ascii "picture") (slotCount l)) h)
-        (on (picture (numbersAt l 7 (slotCount l)))) (refl, refl))
-    go false h q = absurd (none-some q)
+  more : {v : Verb} {vs : List Verb} → ((ns : List ℕ) → v .takes (length ns) ≡ true → Makes v ns) → Fair vs → Fair (v ∷ vs)
 
 choose-reads : (vs : List Verb) → Fair vs → (l : List ℕ) (c : Call) → choose vs l ≡ some c → Written l c
-unfolding choose
-choose-reads [] none-left l c e = picture-reads l c e
-choose-reads (v ∷ vs) (more says f) l c e =
-    go (shaped l (v .word) (v .count)) refl e (choose-reads vs f l c)
+unfolding choose asks
+choose-reads [] none-left l c e = absurd (none-some e)
+choose-reads (v ∷ vs) (more says f) l c e = go (asks l v) refl e (choose-reads vs f l c)
   where
+    n : ℕ
+    n = countAfter l (v .word)
+
+    ns : List ℕ
+    ns = numbersAt l (length (v .word)) n
+
+    many : length ns ≡ n
+    many = length-tab 0 n (λ i. numberAt l (length (v .word) + 4 * i))
+
     go
         : (t : Bool)
-        → shaped l (v .word) (v .count) ≡ t
-        → pick t (v .made (numbersAt l (length (v .word)) (v .count))) (choose vs l) ≡ some c
+        → asks l v ≡ t
+        → pick t (v .made ns) (choose vs l) ≡ some c
         → (choose vs l ≡ some c → Written l c)
         → Written l c
-    go true h q ih = say-back l (v .word) (v .count) h c (says (λ i. numberAt l (length (v .word) + 4 * i)) c q)
+    go true h q ih =
+        say-back l (v .word) n (and-true-r (v .takes n) (shaped l (v .word) n) h) c
+        (says ns (ap (v .takes) many ∙ and-true-l (v .takes n) (shaped l (v .word) n) h) c q)
     go false h q ih = ih q
+
+-- a verb that takes n numbers only is fair where it is of every n of them
+only : {v : Verb} {vs : List Verb} (n : ℕ) → v .takes ≡ eqb n → ((f : ℕ → ℕ) → Makes v (tab 0 n f)) → Fair vs → Fair (v ∷ vs)
+only {v} n k h =
+    more
+    (λ ns e.
+    let q : n ≡ length ns = eqb-true _ _ (ap (λ p. p (length ns)) (sym k) ∙ e) in
+    subst (Makes v) (sym (is-tab n (byte ns) ns (sym q) (λ i l. refl))) (h (byte ns)))
 
 -- what holds of a yes and a no holds of every call that a last number makes
 by-wish
@@ -255,33 +259,58 @@ by-wish P c not-kept kept zero d e = subst (P 0) (some-is e) not-kept
 by-wish P c not-kept kept (suc zero) d e = subst (P 1) (some-is e) kept
 by-wish P c not-kept kept (suc (suc q)) d e = absurd (none-some (rw (lt-ltb 1 (suc (suc q)) (omega arith)) at e))
 
+-- the call of a start's numbers is written as them
+start-says : (ns : List ℕ) → leb 6 (length ns) ≡ true → (c : Call) → startOf ns ≡ some c → Says (ascii "start") ns c
+unfolding startOf
+start-says ns h c e = go (miscounted (setupFrom ns)) e
+  where
+    whole : numbersOf (start (setupFrom ns)) ≡ ns
+    whole = setup-whole ns (leb-true _ _ h)
+
+    go : (t : Bool) → pick t none (some (start (setupFrom ns))) ≡ some c → Says (ascii "start") ns c
+    go true q = absurd (none-some q)
+    go false q = subst (Says (ascii "start") ns) (some-is q) (ap (λ m. ascii "start" ++ fields m) whole, whole)
+
 all-fair : Fair verbs
 unfolding verbs tab
 all-fair =
-    more (λ f c e. subst (Says (ascii "start") _) (some-is e) (refl, refl))
-    (more (λ f. by-wish (λ q. Says (ascii "local") (f 0 ∷ q ∷ [])) (local (f 0)) (refl, refl) (refl, refl) (f 1))
-    (more (λ f. by-wish (λ q. Says (ascii "send") (f 0 ∷ f 1 ∷ q ∷ [])) (send (f 0) (f 1)) (refl, refl) (refl, refl) (f 2))
-    (more (λ f. by-wish (λ q. Says (ascii "receive") (f 0 ∷ f 1 ∷ q ∷ [])) (receive (f 0) (f 1)) (refl, refl) (refl, refl) (f 2))
-    (more (λ f. by-wish (λ q. Says (ascii "reset") (f 0 ∷ q ∷ [])) (reset (f 0)) (refl, refl) (refl, refl) (f 1))
-    (more (λ f c e. subst (Says (ascii "drop") _) (some-is e) (refl, refl))
-    (more (λ f c e. subst (Says (ascii "discard") _) (some-is e) (refl, refl))
-    (more (λ f c e. subst (Says (ascii "before") _) (some-is e) (refl, refl))
-    (more (λ f c e. subst (Says (ascii "compare") _) (some-is e) (refl, refl)) none-left))))))))
+    only 2 refl (λ f. by-wish (λ q. Says (ascii "local") (f 0 ∷ q ∷ [])) (local (f 0)) (refl, refl) (refl, refl) (f 1))
+    (only 3 refl (λ f. by-wish (λ q. Says (ascii "send") (f 0 ∷ f 1 ∷ q ∷ [])) (send (f 0) (f 1)) (refl, refl) (refl, refl) (f 2))
+    (only 3 refl (λ f. by-wish (λ q. Says (ascii "receive") (f 0 ∷ f 1 ∷ q ∷ [])) (receive (f 0) (f 1)) (refl, refl) (refl, refl) (f 2))
+    (only 2 refl (λ f. by-wish (λ q. Says (ascii "reset") (f 0 ∷ q ∷ [])) (reset (f 0)) (refl, refl) (refl, refl) (f 1))
+    (only 1 refl (λ f c e. subst (Says (ascii "drop") _) (some-is e) (refl, refl))
+    (only 1 refl (λ f c e. subst (Says (ascii "discard") _) (some-is e) (refl, refl))
+    (only 2 refl (λ f c e. subst (Says (ascii "before") _) (some-is e) (refl, refl))
+    (only 2 refl (λ f c e. subst (Says (ascii "compare") _) (some-is e) (refl, refl))
+    (more start-says (more (λ ns h c e. subst (Says (ascii "picture") ns) (some-is e) (refl, refl)) none-left)))))))))
 
 pub reads : (l : List ℕ) (c : Call) → parseOf l ≡ some c → (l ≡ textOf c) × Small (numbersOf c)
 unfolding parseOf
-reads l c e = choose-reads verbs all-fair l c e
-
--- a line of n slots is 7 + 4 n bytes long, and over 64 bytes there is no call
-pub picture-fits : (l : List ℕ) (n : ℕ) → callOf l (Picture n) ≡ parseOf l → (n ≤ 14) × (7 + 4 * n ≤ length l)
-picture-fits l n e = go (lt-or-le 64 (length l))
+reads l c e = go (leb (length l) 64) e
   where
-    size : length l ≡ 7 + 4 * n
-    size =
-        let ns = numbersAt l 7 n in
-        ap length (reads l (on (picture ns)) (sym e) .0)
-        ∙ simp length-append (omega (arith, fields-length ns, length-tab 0 n (λ i. numberAt l (7 + 4 * i))))
+    go : (t : Bool) → pick t (choose verbs l) none ≡ some c → Written l c
+    go true q = choose-reads verbs all-fair l c q
+    go false q = absurd (none-some q)
 
-    go : (64 < length l) ⊎ (length l ≤ 64) → (n ≤ 14) × (7 + 4 * n ≤ length l)
-    go (inl h) = absurd (none-some (sym (long-bad l h) ∙ sym e))
-    go (inr h) = let s = size in (omega arith, omega arith)
+-- a line that is read is at most 64 bytes long, its verb and four bytes for each number
+module _ (l : List ℕ) (c : Call) (e : some c ≡ parseOf l) where
+  short : length l ≤ 64
+  short =
+      ⊎-elim (λ (h : 64 < length l). absurd (none-some (sym (long-bad l h) ∙ sym e))) (λ (h : length l ≤ 64). h) (lt-or-le 64 (length l))
+
+  as-long : length l ≡ length (wordOf c) + 4 * length (numbersOf c)
+  as-long = ap length (reads l c (sym e) .0) ∙ simp length-append (omega (arith, fields-length (numbersOf c)))
+
+pub start-fits : (l : List ℕ) (s : SetupNumbers) (n : ℕ) → callOf l (Start s n) ≡ parseOf l → (n ≤ 8) × (limitsAt + 4 * n ≤ length l)
+start-fits l s n e =
+    let k = length-tab 0 n (λ i. numberAt l (limitsAt + 4 * i)) in
+    let h = short l _ e in
+    let a = simp length-append at (as-long l _ e) in
+    (omega arith, omega arith)
+
+pub picture-fits : (l : List ℕ) (n : ℕ) → callOf l (Picture n) ≡ parseOf l → (n ≤ 14) × (slotsAt + 4 * n ≤ length l)
+picture-fits l n e =
+    let k = length-tab 0 n (λ i. numberAt l (slotsAt + 4 * i)) in
+    let h = short l _ e in
+    let a = as-long l _ e in
+    (omega arith, omega arith)

@@ -1,4 +1,5 @@
--- Laws of lines, and lines that are read.
-pub mod Shapes
-pub mod Exact
+-- Lines that are read by hand, and laws of lines.
 pub mod ByHand
+pub mod Shapes
+pub mod Starts
+pub mod Exact

@@ -3,36 +3,36 @@
 --   sized         a line that has a verb's shape is as long as the verb and its numbers
 --   number-there  each of its numbers is one
 --   fits          it is as long as is asked, where the verb and its numbers are
+--   asks-only     of a verb that takes one number of numbers only, the line's shape tells
 --   Past vs n l   the first n verbs do not decide: the others do
 --   chosen        the first verb decides where the line has its shape; its numbers end the line
 --   passed        the others decide where it has not
---   pictured      a line of at most 64 bytes that has the shape of picture asks for a picture of its slots
---   not-pictured  it asks for no call where it has not
+--   chosen-any, passed-any   the same of a verb that takes any number of numbers, or any from some number on
 --   wished-call   an event's command by its last number asks for the call that this number wishes for
 --   sift          of all verbs, those decide whose word opens the line
 --   long-bad      a line over 64 bytes asks for no call
 --   kept-enough   the bytes of a line that are kept tell as much as the whole
 use Prim.Native.Nat.{ℕ, _+_, _*_, _-_, _<_, _≤_}
 use mathlib.Core.Path.{_≡_, refl, sym, ap, _∙_}
-use mathlib.Core.Bool.{Bool, true, false}
+use mathlib.Core.Bool.{Bool, true, false, _&&_}
 use mathlib.Core.List.{List, [], _∷_}
 use mathlib.Core.Option.{none, some}
 use mathlib.Core.Logic.{⊎-elim}
 use native.Mathlib.Omega.{arith}
-use borrow.Author.Tests.{eqb-true, ltb-false, le-leb, lt-leb, ne-eqb}
+use borrow.Author.Tests.{eqb-true, eqb-false, le-leb, lt-leb}
 use lib.Dec.{eqb, ltb}
 use lib.ListN.{length, take, drop}
 use lib.Seq.{take-all, length-take-le}
 use Rattle.tools.specs.Tests.{pick}
-use Rattle.tools.proofs.Tests.{each, not-each, all-at, lt-or-le, pick-ap}
-use Rattle.text.specs.Words.{ascii, opens}
+use Rattle.tools.proofs.Tests.{each, not-each, all-at, and-false, lt-or-le, pick-ap}
+use Rattle.text.specs.Words.{opens}
 use Rattle.text.specs.Digits.{isNumber, numbersAt}
 use Rattle.text.specs.Stream.{most}
 use Rattle.rules.specs.Model.{Act}
 use Rattle.rules.specs.Calls.{on}
 use Rattle.commands.specs.declared.Command.{Command}
-use Rattle.commands.specs.declared.Command.the-variants.{Picture, Bad}
-use Rattle.commands.specs.Lines.{shaped, Verb, wish, verbs, slotCount, pictureOf, choose, parseOf, callOf}
+use Rattle.commands.specs.declared.Command.the-variants.{Bad}
+use Rattle.commands.specs.Lines.{shaped, countAfter, Verb, wish, verbs, asks, choose, parseOf, callOf}
 
 pub sized : (l w : List ℕ) (n : ℕ) → shaped l w n ≡ true → length l ≡ length w + 4 * n
 unfolding shaped
@@ -45,30 +45,49 @@ number-there l w n h i q = all-at _ n i q (each _ h 2)
 pub fits : (l w : List ℕ) (n m : ℕ) {t : Bool} → t ≡ shaped l w n → t ≡ true → m ≤ length w + 4 * n → m ≤ length l
 fits l w n m e h q = omega (arith, sized l w n (sym e ∙ h))
 
+pub asks-only : (l : List ℕ) (v : Verb) (n : ℕ) → v .takes ≡ eqb n → asks l v ≡ shaped l (v .word) n
+unfolding asks
+asks-only l v n k = go (eqb n (countAfter l (v .word))) refl
+  where
+    unlike : (t : Bool) → shaped l (v .word) n ≡ t → (n ≡ countAfter l (v .word) → ⊥) → false ≡ t
+    unlike true e h = let s = sized l (v .word) n e in absurd (h (omega arith))
+    unlike false e h = refl
+
+    go : (t : Bool) → eqb n (countAfter l (v .word)) ≡ t → asks l v ≡ shaped l (v .word) n
+    go true e = rw (asks, k, e) (ap (shaped l (v .word)) (sym (eqb-true _ _ e)))
+    go false e = rw (asks, k, e) (unlike _ refl (eqb-false _ _ e))
+
 abbrev pub Past : List Verb → ℕ → List ℕ → Type 0
 Past vs n l = choose vs l ≡ choose (drop n vs) l
 
--- the first of some verbs, and a test that says whether the line has its shape
-module _ (v : Verb) (vs : List Verb) (l : List ℕ) {t : Bool} (e : t ≡ shaped l (v .word) (v .count)) where
-  pub chosen : t ≡ true → choose (v ∷ vs) l ≡ v .made (numbersAt l (length l - 4 * v .count) (v .count))
+-- the first of some verbs, and a test that says whether the line is its word and n numbers
+module _ (v : Verb) (vs : List Verb) (l : List ℕ) (n : ℕ) {t : Bool} (e : t ≡ shaped l (v .word) n) (k : v .takes ≡ eqb n) where
+  pub chosen : t ≡ true → choose (v ∷ vs) l ≡ v .made (numbersAt l (length l - 4 * n) n)
   unfolding choose
   chosen h =
-      let at : length l - 4 * v .count ≡ length (v .word) = omega (arith, sized l (v .word) (v .count) (sym e ∙ h)) in
-      rw (choose, sym e ∙ h, at)
+      let s = sized l (v .word) n (sym e ∙ h) in
+      let c : countAfter l (v .word) ≡ n = omega arith in
+      let at : length l - 4 * n ≡ length (v .word) = omega arith in
+      rw (choose, asks-only l v n k ∙ sym e ∙ h, c, at)
 
   pub passed : t ≡ false → choose (v ∷ vs) l ≡ choose vs l
   unfolding choose
-  passed h = rw (choose, sym e ∙ h)
+  passed h = rw (choose, asks-only l v n k ∙ sym e ∙ h)
 
--- n slots by the line's length, and a test that says whether the line is one of picture
-module _ (l : List ℕ) (n : ℕ) {t : Bool} (h : length l ≤ 64) (e : n ≡ slotCount l) (q : t ≡ shaped l (ascii "picture") n) where
-  pub pictured : t ≡ true → callOf l (Picture n) ≡ pictureOf l
-  unfolding pictureOf
-  pictured s = rw (pictureOf, le-leb (length l) 64 h, ← e, sym q ∙ s)
+-- the same where the line has n numbers, as many as there are, and the test says too whether the verb takes so many
+module _ (v : Verb) (vs : List Verb) (l : List ℕ) (n : ℕ) {t : Bool} (k : n ≡ countAfter l (v .word))
+    (e : t ≡ (v .takes n && shaped l (v .word) n)) where
+  asked : t ≡ asks l v
+  unfolding asks
+  asked = rw (asks, ← k) e
 
-  pub not-pictured : t ≡ false → callOf l Bad ≡ pictureOf l
-  unfolding pictureOf
-  not-pictured s = rw (pictureOf, le-leb (length l) 64 h, ← e, sym q ∙ s)
+  pub chosen-any : t ≡ true → choose (v ∷ vs) l ≡ v .made (numbersAt l (length (v .word)) n)
+  unfolding choose
+  chosen-any h = rw (choose, sym asked ∙ h, ← k)
+
+  pub passed-any : t ≡ false → choose (v ∷ vs) l ≡ choose vs l
+  unfolding choose
+  passed-any h = rw (choose, sym asked ∙ h)
 
 -- a command m of a yes or no, and r what its last number makes of it
 pub wished-call : (l : List ℕ) (q : ℕ) (c : Bool → Act) (m r : Command)
@@ -77,41 +96,31 @@ pub wished-call : (l : List ℕ) (q : ℕ) (c : Bool → Act) (m r : Command)
     → callOf l r ≡ wish q c
 wished-call l q c m r e h = ap (callOf l) e ∙ pick-ap (callOf l) (ltb 1 q) Bad m ∙ ap (pick (ltb 1 q) none) h
 
--- how long a verb's lines are
-abbrev pub size : Verb → ℕ
-size v = length (v .word) + 4 * v .count
+-- the verbs whose word opens a line
+abbrev pub opening : List ℕ → List Verb → List Verb
+opening l [] = []
+opening l (v ∷ vs) = pick (opens l (v .word)) (v ∷ opening l vs) (opening l vs)
 
--- the verbs that pass a test
-abbrev pub sifted : (Verb → Bool) → List Verb → List Verb
-sifted p [] = []
-sifted p (v ∷ vs) = pick (p v) (v ∷ sifted p vs) (sifted p vs)
+sift-all : (l : List ℕ) (vs : List Verb) → choose vs l ≡ choose (opening l vs) l
+unfolding choose asks shaped
+sift-all l [] = refl
+sift-all l (v ∷ vs) = go (opens l (v .word)) refl (sift-all l vs)
+  where
+    go
+        : (t : Bool)
+        → opens l (v .word) ≡ t
+        → choose vs l ≡ choose (opening l vs) l
+        → choose (v ∷ vs) l ≡ choose (pick t (v ∷ opening l vs) (opening l vs)) l
+    go true e ih = ap (pick (asks l v) _) ih
+    go false e ih = rw (choose, asks, not-each _ 1 e, and-false (v .takes (countAfter l (v .word)))) ih
 
-module _ (l : List ℕ) (p : Verb → Bool) (no : (v : Verb) → p v ≡ false → shaped l (v .word) (v .count) ≡ false) where
-  sift-by : (vs : List Verb) → choose vs l ≡ choose (sifted p vs) l
-  unfolding choose
-  sift-by [] = refl
-  sift-by (v ∷ vs) = go (p v) refl (sift-by vs)
-    where
-      go
-          : (t : Bool)
-          → p v ≡ t
-          → choose vs l ≡ choose (sifted p vs) l
-          → choose (v ∷ vs) l ≡ choose (pick t (v ∷ sifted p vs) (sifted p vs)) l
-      go true e ih = ap (pick (shaped l (v .word) (v .count)) _) ih
-      go false e ih = rw (choose, no v e) ih
-
-pub sift : (l : List ℕ) → parseOf l ≡ choose (sifted (λ v. opens l (v .word)) verbs) l
-unfolding parseOf shaped
-sift l = sift-by l (λ v. opens l (v .word)) (λ v h. not-each _ 1 h) verbs
+pub sift : (l : List ℕ) → length l ≤ 64 → parseOf l ≡ choose (opening l verbs) l
+unfolding parseOf
+sift l h = rw (parseOf, le-leb (length l) 64 h) (sift-all l verbs)
 
 pub long-bad : (l : List ℕ) → 64 < length l → parseOf l ≡ none
-unfolding parseOf choose verbs shaped pictureOf
-long-bad l h =
-    sift-by l (λ v. ltb 64 (size v))
-    (λ v q.
-    let s : size v ≤ 64 = ltb-false _ _ q in
-    not-each _ 0 (ne-eqb (length l) (size v) (λ e. omega arith))) verbs
-    ∙ rw (pictureOf, lt-leb (length l) 64 h)
+unfolding parseOf
+long-bad l h = rw (parseOf, lt-leb (length l) 64 h)
 
 pub kept-enough : (l : List ℕ) → parseOf (take most l) ≡ parseOf l
 kept-enough l =

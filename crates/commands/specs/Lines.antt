@@ -1,29 +1,35 @@
 -- A line of the listing: a verb, then numbers of exactly three digits, with single spaces, and nothing else.
 -- Assumes nothing. In words: docs/RULES.md, "Listing".
---   shaped l w n    the line is the word w and n numbers
---   Verb            a word, how many numbers follow it, and the call that they make
---   wish q c        the call of the event c of a yes or no: 1 is yes, 0 no, any other number makes none
---   questions       the verbs that ask about two slots
---   filings         those that free a slot or a place
---   events          those of the four events, whose last number says whether to keep the stamp
---   verbs           all verbs but picture, start first
---   slotCount l     how many slots a line of picture has, by its length: seven bytes of the verb, then four for each
---   pictureOf l     the call of a line of picture, with any number of slots in at most 64 bytes; none for any other line
---   choose vs l     the call of the first verb whose line l is; where there is none, that of picture
---   parseOf l       the call of a line; none for any other line, a BadLine
---   setupFrom ns    the setup that seven numbers make
---   callOf l c      the call that a command asks for, the slots of picture taken from its line l; none for `Bad`
+--   shaped l w n     the line is the word w and n numbers
+--   countAfter l w   how many numbers a line has after the word w, by its length: four bytes for each
+--   Verb             a word, how many numbers it takes, and the call that they make
+--   wish q c         the call of the event c of a yes or no: 1 is yes, 0 no, any other number makes none
+--   events           the verbs of the four events, whose last number says whether to keep the stamp
+--   filings          those that free a slot or a place
+--   questions        those that ask about two slots
+--   setupFrom ns     the setup that D and P, any number of limits, M, A, m and n make
+--   miscounted X     D is from 2 to 8, and there are other than D limits
+--   startOf ns       the call of the numbers of a start; none where its limits are miscounted
+--   pictureOf ns     the call of the slots of a picture
+--   lists            the verbs that take any number of numbers: start, whose limits are between six others, and picture
+--   verbs            all verbs
+--   asks l v         the line asks for the verb v: it is its word, and as many numbers as it takes
+--   choose vs l      the call of the first verb that the line asks for; none where it asks for none
+--   parseOf l        the call of a line; none for a line over 64 bytes or of any other shape, a BadLine
+--   limitsAt         where the limits of a start begin in its line
+--   slotsAt          where the slots of a picture begin in its line
+--   callOf l c       the call that a command asks for, its limits or slots taken from its line l; none for `Bad`
 use Prim.Native.Nat.{ℕ, _+_, _*_, _-_, _/_}
-use mathlib.Core.Bool.{Bool, _&&_}
+use mathlib.Core.Bool.{Bool, true, not, _&&_}
 use mathlib.Core.List.{List, [], _∷_, _++_}
 use mathlib.Core.Option.{Option, none, some}
 use lib.Dec.{eqb, ltb, leb}
-use lib.ListN.{length}
-use Rattle.tools.specs.Tests.{pick, allOf, allBelow}
+use lib.ListN.{length, take, drop}
+use Rattle.tools.specs.Tests.{pick, allOf, allBelow, within}
 use Rattle.tools.specs.Lists.{byte}
 use Rattle.text.specs.Words.{ascii, opens}
 use Rattle.text.specs.Digits.{isNumber, numbersAt}
-use Rattle.rules.specs.declared.Setup.{Setup}
+use Rattle.rules.specs.Setups.{Setup, setupWith}
 use Rattle.rules.specs.Model as Model
 use Rattle.rules.specs.Model.{Act}
 use Rattle.rules.specs.Calls.{Call, start, on}
@@ -46,70 +52,89 @@ unfoldable pub shaped : List ℕ → List ℕ → ℕ → Bool
 shaped l w n =
     allOf (eqb (length l) (length w + 4 * n) ∷ opens l w ∷ allBelow n (λ i. isNumber l (length w + 4 * i)) ∷ [])
 
+abbrev pub countAfter : List ℕ → List ℕ → ℕ
+countAfter l w = (length l - length w) / 4
+
 pub record Verb : Type 0 where
   pub word : List ℕ
-  pub count : ℕ
+  pub takes : ℕ → Bool
   pub made : List ℕ → Option Call
-
-abbrev pub setupFrom : List ℕ → Setup
-setupFrom ns =
-    record {
-      desks = byte ns 0;
-      phases = byte ns 1;
-      clocks = byte ns 2;
-      seatLag = byte ns 3;
-      shelfLag = byte ns 4;
-      back = byte ns 5;
-      ahead = byte ns 6;
-    }
 
 abbrev pub wish : ℕ → (Bool → Act) → Option Call
 wish q c = pick (ltb 1 q) none (some (on (c (eqb q 1))))
 
-abbrev pub questions : List Verb
-questions =
-    (record { word = ascii "before"; count = 2; made = λ ns. some (on (Model.before (byte ns 0) (byte ns 1))) })
-    ∷ (record { word = ascii "compare"; count = 2; made = λ ns. some (on (Model.compare (byte ns 0) (byte ns 1))) })
+abbrev pub events : List Verb
+events =
+    (record { word = ascii "local"; takes = eqb 2; made = λ ns. wish (byte ns 1) (Model.local (byte ns 0)) })
+    ∷ (record { word = ascii "send"; takes = eqb 3; made = λ ns. wish (byte ns 2) (Model.send (byte ns 0) (byte ns 1)) })
+    ∷ (record { word = ascii "receive"; takes = eqb 3; made = λ ns. wish (byte ns 2) (Model.receive (byte ns 0) (byte ns 1)) })
+    ∷ (record { word = ascii "reset"; takes = eqb 2; made = λ ns. wish (byte ns 1) (Model.reset (byte ns 0)) })
     ∷ []
 
 abbrev pub filings : List Verb
 filings =
-    (record { word = ascii "drop"; count = 1; made = λ ns. some (on (Model.drop (byte ns 0))) })
-    ∷ (record { word = ascii "discard"; count = 1; made = λ ns. some (on (Model.discard (byte ns 0))) })
+    (record { word = ascii "drop"; takes = eqb 1; made = λ ns. some (on (Model.drop (byte ns 0))) })
+    ∷ (record { word = ascii "discard"; takes = eqb 1; made = λ ns. some (on (Model.discard (byte ns 0))) })
     ∷ []
 
-abbrev pub events : List Verb
-events =
-    (record { word = ascii "local"; count = 2; made = λ ns. wish (byte ns 1) (Model.local (byte ns 0)) })
-    ∷ (record { word = ascii "send"; count = 3; made = λ ns. wish (byte ns 2) (Model.send (byte ns 0) (byte ns 1)) })
-    ∷ (record { word = ascii "receive"; count = 3; made = λ ns. wish (byte ns 2) (Model.receive (byte ns 0) (byte ns 1)) })
-    ∷ (record { word = ascii "reset"; count = 2; made = λ ns. wish (byte ns 1) (Model.reset (byte ns 0)) })
+abbrev pub questions : List Verb
+questions =
+    (record { word = ascii "before"; takes = eqb 2; made = λ ns. some (on (Model.before (byte ns 0) (byte ns 1))) })
+    ∷ (record { word = ascii "compare"; takes = eqb 2; made = λ ns. some (on (Model.compare (byte ns 0) (byte ns 1))) })
+    ∷ []
+
+unfoldable pub setupFrom : List ℕ → Setup
+setupFrom ns =
+    let last = drop (length ns - 4) ns in
+    record {
+      desks = byte ns 0;
+      phases = byte ns 1;
+      limits = take (length ns - 6) (drop 2 ns);
+      seatLag = byte last 0;
+      shelfLag = byte last 1;
+      back = byte last 2;
+      ahead = byte last 3;
+    }
+
+unfoldable pub miscounted : Setup → Bool
+miscounted X = within 2 8 (X .desks) && not (eqb (length (X .limits)) (X .desks))
+
+-- any other fault of a setup is judged by the call
+unfoldable pub startOf : List ℕ → Option Call
+startOf ns = pick (miscounted (setupFrom ns)) none (some (start (setupFrom ns)))
+
+-- whether the slots are as many as the book asks for is judged by the call
+abbrev pub pictureOf : List ℕ → Option Call
+pictureOf ns = some (on (Model.picture ns))
+
+abbrev pub lists : List Verb
+lists =
+    (record { word = ascii "start"; takes = leb 6; made = startOf })
+    ∷ (record { word = ascii "picture"; takes = λ n. true; made = pictureOf })
     ∷ []
 
 unfoldable pub verbs : List Verb
-verbs =
-    (record { word = ascii "start"; count = 7; made = λ ns. some (start (setupFrom ns)) })
-    ∷ (events ++ filings ++ questions)
+verbs = events ++ filings ++ questions ++ lists
 
-abbrev pub slotCount : List ℕ → ℕ
-slotCount l = (length l - 7) / 4
-
--- whether the slots are as many as the book asks for is judged by the call
-unfoldable pub pictureOf : List ℕ → Option Call
-pictureOf l =
-    pick (leb (length l) 64 && shaped l (ascii "picture") (slotCount l))
-    (some (on (Model.picture (numbersAt l 7 (slotCount l))))) none
+unfoldable pub asks : List ℕ → Verb → Bool
+asks l v = v .takes (countAfter l (v .word)) && shaped l (v .word) (countAfter l (v .word))
 
 unfoldable pub choose : List Verb → List ℕ → Option Call
-choose [] l = pictureOf l
+choose [] l = none
 choose (v ∷ vs) l =
-    pick (shaped l (v .word) (v .count)) (v .made (numbersAt l (length (v .word)) (v .count))) (choose vs l)
+    pick (asks l v) (v .made (numbersAt l (length (v .word)) (countAfter l (v .word)))) (choose vs l)
 
 unfoldable pub parseOf : List ℕ → Option Call
-parseOf l = choose verbs l
+parseOf l = pick (leb (length l) 64) (choose verbs l) none
+
+abbrev pub limitsAt : ℕ
+limitsAt = length (ascii "start") + 2 * 4
+
+abbrev pub slotsAt : ℕ
+slotsAt = length (ascii "picture")
 
 abbrev pub callOf : List ℕ → Command → Option Call
-callOf l (Start s) = some (start s)
+callOf l (Start s n) = some (start (setupWith s (numbersAt l limitsAt n)))
 callOf l (Local d q) = some (on (Model.local d q))
 callOf l (Send d k q) = some (on (Model.send d k q))
 callOf l (Receive d p q) = some (on (Model.receive d p q))
@@ -118,5 +143,5 @@ callOf l (Drop s) = some (on (Model.drop s))
 callOf l (Discard p) = some (on (Model.discard p))
 callOf l (Before s t) = some (on (Model.before s t))
 callOf l (Compare s t) = some (on (Model.compare s t))
-callOf l (Picture n) = some (on (Model.picture (numbersAt l 7 n)))
+callOf l (Picture n) = some (on (Model.picture (numbersAt l slotsAt n)))
 callOf l Bad = none

@@ -5,11 +5,12 @@
 --   wishNumber q    1 for yes, 0 for no
 --   numbersOf c     its numbers, in the order of its line
 --   textOf c        its line
---   Spoken c        it has a verb, and its line is not over 64 bytes
+--   Counted c       of a start, its limits are not miscounted
+--   Spoken c        it has a verb, its limits are not miscounted, and its line is not over 64 bytes
 --   Small ns        each number has at most three digits
 use Prim.Native.Nat.{ℕ, _≤_, _<_}
 use mathlib.Core.Path.{_≡_}
-use mathlib.Core.Bool.{Bool}
+use mathlib.Core.Bool.{Bool, false}
 use mathlib.Core.List.{List, [], _∷_, _++_}
 use lib.ListN.{length}
 use Rattle.tools.specs.Tests.{pick}
@@ -18,6 +19,7 @@ use Rattle.text.specs.Words.{ascii}
 use Rattle.text.specs.Put.{field}
 use Rattle.rules.specs.Model.{local, send, receive, reset, drop, discard, ask, askBefore, askCompare, askPicture, askShow, askWrite}
 use Rattle.rules.specs.Calls.{Call, start, on}
+use Rattle.commands.specs.Lines.{miscounted}
 
 abbrev pub fields : List ℕ → List ℕ
 fields [] = []
@@ -42,7 +44,7 @@ wishNumber q = pick q 1 0
 
 abbrev pub numbersOf : Call → List ℕ
 numbersOf (start s) =
-    s .desks ∷ s .phases ∷ s .clocks ∷ s .seatLag ∷ s .shelfLag ∷ s .back ∷ s .ahead ∷ []
+    s .desks ∷ s .phases ∷ s .limits ++ (s .seatLag ∷ s .shelfLag ∷ s .back ∷ s .ahead ∷ [])
 numbersOf (on (local d q)) = d ∷ wishNumber q ∷ []
 numbersOf (on (send d k q)) = d ∷ k ∷ wishNumber q ∷ []
 numbersOf (on (receive d p q)) = d ∷ p ∷ wishNumber q ∷ []
@@ -58,8 +60,12 @@ numbersOf (on (ask (askWrite s room))) = []
 abbrev pub textOf : Call → List ℕ
 textOf c = wordOf c ++ fields (numbersOf c)
 
+abbrev pub Counted : Call → Type 0
+Counted (start s) = miscounted s ≡ false
+Counted (on c) = Unit {0}
+
 abbrev pub Spoken : Call → Type 0
-Spoken c = (wordOf c ≡ [] → ⊥) × (length (textOf c) ≤ 64)
+Spoken c = (wordOf c ≡ [] → ⊥) × Counted c × (length (textOf c) ≤ 64)
 
 abbrev pub Small : List ℕ → Type 0
 Small ns = (i : ℕ) → i < length ns → byte ns i < 1000

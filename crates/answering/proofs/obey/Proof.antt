@@ -3,7 +3,7 @@ use Rattle.rules.specs.Model.{done}
 use Rattle.replies.specs.Print.{longest}
 use Rattle.answering.proofs.Answered.{printable, same-book, printed, printed-any}
 use Rattle.commands.specs.Lines.{parseOf, callOf}
-use Rattle.commands.proofs.Exact.{picture-fits}
+use Rattle.commands.proofs.Exact.{start-fits, picture-fits}
 use mathlib.Core.Path.{_≡_, refl, sym, ap, _∙_}
 use Prim.Native.Nat.{_+_, _≤_}
 use lib.ListN.{length}
@@ -23,6 +23,11 @@ read
     → callOf (c .before .before .before .before .before .args .line .now) (c .before .before .before .before .before .args .c)
     ≡ parseOf (c .before .before .before .before .before .args .line .now)
 read c = c .before .before .before .before .before .pre .1
+
+begin-requires : tie.Need-begin-requires
+begin-requires c κs =
+    let k = c .before .before .before in
+    start-fits _ _ _ (ap (callOf _) (sym (k .c .given .1)) ∙ read (k .before .before))
 
 put-stamped-requires : tie.Need-put-stamped-requires
 put-stamped-requires c κs =
@@ -58,7 +63,7 @@ returns c =
     let k = c .before .before .before .before .before in
     let d = k .before .before .before .before .before .before in
     printed-any _ _ _ _ _ _ (read d) (k .before .before .before .before .c .given .1) _ _ _ _
-    (k .start .ensures .0) (k .start .ensures .1)
+    (k .begin .ensures .0) (k .begin .ensures .1)
     (c .before .before .put-number .ensures)
 
 returns-2 : tie.Need-returns-2
@@ -148,7 +153,7 @@ obey-spec =
     tie.close
     (tie.spec
     (λ c κs. search needs)
-    (λ c. search needs) (λ c κs. search needs) (λ c κs. search needs)
+    (λ c. search needs) begin-requires (λ c κs. search needs)
     (λ c. search needs) (λ c κs. search needs) put-stamped-requires
     (λ c. search needs) (λ c κs. search needs) put-sent-requires
     (λ c. search needs) (λ c κs. search needs) put-received-requires

@@ -6,7 +6,7 @@ use native.Mathlib.Omega.{arith}
 use borrow.Author.Needs.{needs}
 use Rattle.tools.specs.Lists.{tab}
 use Rattle.rules.specs.Model.{local, send, receive, reset}
-use Rattle.commands.specs.Lines.{questions, filings, events}
+use Rattle.commands.specs.Lines.{events, filings, questions, lists}
 use Rattle.commands.proofs.Shapes.{Past, fits, chosen, passed, wished-call}
 use Rattle.commands.proofs.parse_events.Statement.{statement}
 use Rattle.commands.proofs.parse_events.Tie as tie
@@ -14,17 +14,18 @@ use Rattle.commands.proofs.parse_events.Tie as tie
 abbrev line : tie.Else1 → List ℕ
 line c = c .before .before .before .before .args .line .now
 
-past-1 : (c : tie.Else1) → Past (events ++ filings ++ questions) 1 (line c)
-past-1 c = passed _ _ _ (c .before .is-line .ensures) (c .if1 .left)
+past-1 : (c : tie.Else1) → Past (events ++ filings ++ questions ++ lists) 1 (line c)
+past-1 c = passed _ _ _ _ (c .before .is-line .ensures) refl (c .if1 .left)
 
-past-2 : (c : tie.Else2) → Past (events ++ filings ++ questions) 2 (line (c .before .before .before))
-past-2 c = past-1 (c .before .before .before) ∙ passed _ _ _ (c .before .is-line2 .ensures) (c .if2 .left)
+past-2 : (c : tie.Else2) → Past (events ++ filings ++ questions ++ lists) 2 (line (c .before .before .before))
+past-2 c = past-1 (c .before .before .before) ∙ passed _ _ _ _ (c .before .is-line2 .ensures) refl (c .if2 .left)
 
-past-3 : (c : tie.Else3) → Past (events ++ filings ++ questions) 3 (line (c .before .before .before .before .before .before))
-past-3 c = past-2 (c .before .before .before) ∙ passed _ _ _ (c .before .is-line3 .ensures) (c .if3 .left)
+past-3 : (c : tie.Else3) → Past (events ++ filings ++ questions ++ lists) 3 (line (c .before .before .before .before .before .before))
+past-3 c = past-2 (c .before .before .before) ∙ passed _ _ _ _ (c .before .is-line3 .ensures) refl (c .if3 .left)
 
-past-4 : (c : tie.Else4) → Past (events ++ filings ++ questions) 4 (line (c .before .before .before .before .before .before .before .before .before))
-past-4 c = past-3 (c .before .before .before) ∙ passed _ _ _ (c .before .is-line4 .ensures) (c .if4 .left)
+past-4 : (c : tie.Else4)
+    → Past (events ++ filings ++ questions ++ lists) 4 (line (c .before .before .before .before .before .before .before .before .before))
+past-4 c = past-3 (c .before .before .before) ∙ passed _ _ _ _ (c .before .is-line4 .ensures) refl (c .if4 .left)
 
 returns : tie.Need-returns
 unfolding tab
@@ -32,7 +33,7 @@ returns c =
     let t = c .before .before .before in
     wished-call _ (c .before .before .number .result) (local (c .before .number2 .result)) _ _ (c .wished .ensures) refl
     ∙ rw (c .before .before .number .ensures, c .before .number2 .ensures)
-    (sym (chosen _ _ _ (t .before .is-line .ensures) (t .if1 .taken)))
+    (sym (chosen _ _ _ _ (t .before .is-line .ensures) refl (t .if1 .taken)))
 
 returns-2 : tie.Need-returns-2
 unfolding tab
@@ -41,7 +42,7 @@ returns-2 c =
     wished-call _ (c .before .before .before .number3 .result) (send (c .before .before .number4 .result) (c .before .number5 .result))
     _ _ (c .wished2 .ensures) refl
     ∙ rw (c .before .before .before .number3 .ensures, c .before .before .number4 .ensures, c .before .number5 .ensures)
-    (sym (past-1 (t .before .before .before) ∙ chosen _ _ _ (t .before .is-line2 .ensures) (t .if2 .taken)))
+    (sym (past-1 (t .before .before .before) ∙ chosen _ _ _ _ (t .before .is-line2 .ensures) refl (t .if2 .taken)))
 
 returns-3 : tie.Need-returns-3
 unfolding tab
@@ -50,7 +51,7 @@ returns-3 c =
     wished-call _ (c .before .before .before .number6 .result) (receive (c .before .before .number7 .result) (c .before .number8 .result))
     _ _ (c .wished3 .ensures) refl
     ∙ rw (c .before .before .before .number6 .ensures, c .before .before .number7 .ensures, c .before .number8 .ensures)
-    (sym (past-2 (t .before .before .before) ∙ chosen _ _ _ (t .before .is-line3 .ensures) (t .if3 .taken)))
+    (sym (past-2 (t .before .before .before) ∙ chosen _ _ _ _ (t .before .is-line3 .ensures) refl (t .if3 .taken)))
 
 returns-4 : tie.Need-returns-4
 unfolding tab
@@ -58,7 +59,7 @@ returns-4 c =
     let t = c .before .before .before in
     wished-call _ (c .before .before .number9 .result) (reset (c .before .number10 .result)) _ _ (c .wished4 .ensures) refl
     ∙ rw (c .before .before .number9 .ensures, c .before .number10 .ensures)
-    (sym (past-3 (t .before .before .before) ∙ chosen _ _ _ (t .before .is-line4 .ensures) (t .if4 .taken)))
+    (sym (past-3 (t .before .before .before) ∙ chosen _ _ _ _ (t .before .is-line4 .ensures) refl (t .if4 .taken)))
 
 returns-5 : tie.Need-returns-5
 returns-5 c = c .parse-filings .ensures ∙ sym (past-4 (c .before))
