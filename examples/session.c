@@ -3,8 +3,13 @@
 
 #include <stdio.h>
 
+enum { DESKS = 2 };
+
 static uint8_t book[GULAMBITOK_BOOK_BYTES];
 static uint8_t stamp[GULAMBITOK_STAMP_BYTES];
+
+/* One for each desk. */
+static const size_t limits[DESKS] = {3, 3};
 
 static const char *const relations[] = {
     [GULAMBITOK_BEFORE] = "before", [GULAMBITOK_AFTER] = "after", [GULAMBITOK_SAME] = "same",
@@ -41,7 +46,7 @@ int main(void)
 {
     uint8_t place = 0, learnt = 0, first = 0, second = 0, relation = 0;
 
-    done(gulambitok_start(book, sizeof book, 2, 3, 3, 1, 1, 1, 1));
+    done(gulambitok_start(book, sizeof book, DESKS, 3, limits, DESKS, 1, 1, 1, 1));
     puts("");
     print_event(gulambitok_local(book, sizeof book, 0, 1, stamp, sizeof stamp, &first, 1),
                 NULL, NULL, &first);

@@ -20,7 +20,10 @@ var relations = map[number]string{
 var book [C.GULAMBITOK_BOOK_BYTES]number
 var stamp [C.GULAMBITOK_STAMP_BYTES]number
 
-const bookLen, stampLen = C.size_t(len(book)), C.size_t(len(stamp))
+// One for each desk.
+var limits = [...]C.size_t{3, 3}
+
+const bookLen, stampLen, desks = C.size_t(len(book)), C.size_t(len(stamp)), C.size_t(len(limits))
 
 // On a refusal nothing else was written, so the number stands alone.
 func printLine(answer number, fields string) {
@@ -41,8 +44,9 @@ func stampFields() string {
 
 func main() {
 	var place, learnt, first, second, relation number
-	printLine(C.gulambitok_start(&book[0], bookLen, 2, 3, 3, 1, 1, 1, 1), "")
-	answer := C.gulambitok_local(&book[0], bookLen, 0, 1, &stamp[0], stampLen, &first, 1)
+	answer := C.gulambitok_start(&book[0], bookLen, desks, 3, &limits[0], desks, 1, 1, 1, 1)
+	printLine(answer, "")
+	answer = C.gulambitok_local(&book[0], bookLen, 0, 1, &stamp[0], stampLen, &first, 1)
 	printLine(answer, stampFields()+fmt.Sprintf(" %03d", first))
 	answer = C.gulambitok_send(&book[0], bookLen, 0, 1, 0, &stamp[0], stampLen, &place, 1, nil, 0)
 	printLine(answer, fmt.Sprintf(" %03d", place)+stampFields())

@@ -8,7 +8,7 @@ RELATIONS = {1: "before", 2: "after", 3: "same", 4: "concurrent", 5: "crossed"}
 
 
 def lent(value):
-    """A buffer is lent as pointer and length. ctypes would cut a wider number short unasked."""
+    """A buffer or a list is lent as pointer and length. ctypes would cut a wider number short unasked."""
     if not isinstance(value, int):
         return [value, ctypes.c_size_t(len(value))]
     if not 0 <= value < 2**64:
@@ -39,10 +39,13 @@ def buffer(size):
 # An event that is not kept has no slot to write.
 NOTHING = buffer(0)
 
+# One for each desk.
+limits = (ctypes.c_size_t * 2)(3, 3)
+
 book, stamp = buffer(1456), buffer(20)
 place, learnt, first, second, relation = (buffer(1) for _ in range(5))
 
-print_line(call("start", book, 2, 3, 3, 1, 1, 1, 1))
+print_line(call("start", book, len(limits), 3, limits, 1, 1, 1, 1))
 print_line(call("local", book, 0, 1, stamp, first), *stamp_fields(stamp), f"{first[0]:03}")
 print_line(call("send", book, 0, 1, 0, stamp, place, NOTHING), f"{place[0]:03}", *stamp_fields(stamp))
 print_line(call("receive", book, 1, place[0], 1, stamp, learnt, second),

@@ -2,12 +2,16 @@
 
 const BOOK: usize = 1456;
 const STAMP: usize = 20;
+const DESKS: usize = 2;
+/// One for each desk.
+const LIMITS: [usize; DESKS] = [3, 3];
 const RELATIONS: [&str; 6] = ["", "before", "after", "same", "concurrent", "crossed"];
 
 #[rustfmt::skip]
 extern "C" {
-    fn gulambitok_start(book: &mut [u8; BOOK], book_len: usize, desks: usize, phases: usize, clocks: usize,
-                        seat_lag: usize, shelf_lag: usize, back: usize, ahead: usize) -> u8;
+    fn gulambitok_start(book: &mut [u8; BOOK], book_len: usize, desks: usize, phases: usize,
+                        limits: &[usize; DESKS], limits_len: usize, seat_lag: usize, shelf_lag: usize,
+                        back: usize, ahead: usize) -> u8;
     fn gulambitok_local(book: &mut [u8; BOOK], book_len: usize, desk: usize, keep: usize,
                         stamp: &mut [u8; STAMP], stamp_len: usize,
                         slot: Option<&mut u8>, slot_len: usize) -> u8;
@@ -39,7 +43,8 @@ fn main() {
     let (mut place, mut learnt, mut first, mut second, mut relation) = (0, 0, 0, 0, 0);
     // Each length below is that of the array or byte before it, 0 where there is none. No two overlap.
     unsafe {
-        print_line(gulambitok_start(&mut book, BOOK, 2, 3, 3, 1, 1, 1, 1), "");
+        let answer = gulambitok_start(&mut book, BOOK, DESKS, 3, &LIMITS, DESKS, 1, 1, 1, 1);
+        print_line(answer, "");
         let answer = gulambitok_local(&mut book, BOOK, 0, 1, &mut stamp, STAMP, Some(&mut first), 1);
         print_line(answer, &(stamp_fields(&stamp) + &format!(" {first:03}")));
         let answer = gulambitok_send(&mut book, BOOK, 0, 1, 0, &mut stamp, STAMP, &mut place, 1, None, 0);

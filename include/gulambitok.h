@@ -4,11 +4,11 @@
  * several refusals apply the smallest is given. A refused call changes no byte of the book or of
  * any other buffer it was lent; a call that is done fills the bytes it says and no more.
  *
- * The caller need check nothing beforehand: a book may hold any bytes, and numbers of a setup and
- * of desks, places and slots may be any. Two things no call can check, and the caller owes them:
- * a length is the number of bytes truly lent, or of slots in a list (0 may go with a null pointer),
- * and a buffer that a call writes overlaps no other buffer of that call and is used by nobody else
- * until it returns.
+ * The caller need check nothing beforehand: a book may hold any bytes, a list may have any length,
+ * and numbers of a setup and of desks, places and slots may be any. Two things no call can check, and
+ * the caller owes them: a length is the number of bytes truly lent, or of limits or slots in a list
+ * (0 may go with a null pointer), and a buffer that a call writes overlaps no other buffer and no list
+ * of that call and is used by nobody else until it returns.
  *
  * The buffers stay the caller's: no call keeps a pointer, allocates or remembers anything.
  */
@@ -26,13 +26,13 @@ extern "C" {
 enum {
     GULAMBITOK_DONE = 0,
     GULAMBITOK_BAD_BOOK = 1,      /* book not sound; for start, only the length counts */
-    GULAMBITOK_BAD_SETUP = 2,     /* a setup number or inequality fails */
+    GULAMBITOK_BAD_SETUP = 2,     /* a setup number, limit or inequality fails; not D limits */
     GULAMBITOK_NO_DESK = 3,       /* a desk number is D or more */
     GULAMBITOK_SAME_DESK = 4,     /* send to oneself */
     GULAMBITOK_NO_PLACE = 5,      /* place or slot above 31, or free; for picture, not D slots */
     GULAMBITOK_NOT_YOURS = 6,     /* mail addressed to another desk */
     GULAMBITOK_NO_EVENT = 7,      /* never given */
-    GULAMBITOK_PHASE_FULL = 8,    /* local, send or receive at own clock L-1 */
+    GULAMBITOK_PHASE_FULL = 8,    /* local, send or receive; the own clock is the desk's limit less 1 */
     GULAMBITOK_MAIL_FULL = 9,     /* send with no free place */
     GULAMBITOK_SHELF_FULL = 10,   /* a kept event with no free slot */
     GULAMBITOK_SEAT_BEHIND = 11,  /* reset; the entry for the desk lags M in another seat */
@@ -82,11 +82,11 @@ enum {
     GULAMBITOK_SHELF_AT = 816
 };
 
-/* Offsets in the header, after its mark 42 4B; seven zeros follow the last. */
+/* Offsets in the header, after its mark 42 4B; a zero stands between P and M, and seven zeros follow
+ * the last. */
 enum {
     GULAMBITOK_HEADER_DESKS_AT = 2,     /* D */
     GULAMBITOK_HEADER_PHASES_AT = 3,    /* P */
-    GULAMBITOK_HEADER_CLOCKS_AT = 4,    /* L */
     GULAMBITOK_HEADER_SEAT_LAG_AT = 5,  /* M */
     GULAMBITOK_HEADER_SHELF_LAG_AT = 6, /* A */
     GULAMBITOK_HEADER_BACK_AT = 7,      /* m */
@@ -94,9 +94,11 @@ enum {
 };
 
 /* Offsets in a record of the book, after its mark: 53 45 for a seat, 4D 41 for mail, 53 48 for a
- * slot. */
+ * slot. In a book the limit of a desk stands at
+ * GULAMBITOK_SEATS_AT + GULAMBITOK_RECORD_BYTES * desk + GULAMBITOK_SEAT_LIMIT_AT. */
 enum {
-    GULAMBITOK_SEAT_STARTED_AT = 2,   /* 0 or 1; a zero follows */
+    GULAMBITOK_SEAT_STARTED_AT = 2,   /* 0 or 1 */
+    GULAMBITOK_SEAT_LIMIT_AT = 3,     /* the desk's limit, 2 to 255; 0 for desks D and above */
     GULAMBITOK_MAIL_SENDER_AT = 2,    /* sender+1, 0 when the place is free */
     GULAMBITOK_MAIL_ADDRESSEE_AT = 3, /* addressee+1 */
     GULAMBITOK_SLOT_OWNER_AT = 2,     /* owner+1, 0 when the slot is free; a zero follows */
@@ -111,11 +113,14 @@ enum {
 };
 
 /* Start writes a fresh book under a setup: rows zero, no seat started, all places free. What the
- * book held before is lost. The setup is D desks, P phases on the ring, L clock values, M the lag
- * permitted to a seat, A the lag permitted to a kept stamp, m and n the reach of a comparison: from
- * m-1 phases back, m from a reset, to n-1 ahead. Refusals: 1, 2. */
-uint8_t gulambitok_start(uint8_t *book, size_t book_len, size_t desks, size_t phases, size_t clocks,
-                         size_t seat_lag, size_t shelf_lag, size_t back, size_t ahead);
+ * book held before is lost. The setup is D desks, P phases on the ring, a list of exactly D limits,
+ * M the lag permitted to a seat, A the lag permitted to a kept stamp, m and n the reach of a
+ * comparison: from m-1 phases back, m from a reset, to n-1 ahead. The i-th limit, from 2 to 255, is
+ * how many clock values desk i has in a phase; limits are numbers as wide as any other, so 260 is
+ * not 4. No other call changes a limit. Refusals: 1, 2. */
+uint8_t gulambitok_start(uint8_t *book, size_t book_len, size_t desks, size_t phases,
+                         const size_t *limits, size_t limits_len, size_t seat_lag, size_t shelf_lag,
+                         size_t back, size_t ahead);
 
 /* Local, send, receive and reset are the events. Each takes a number for the wish to keep its
  * stamp: 0 is no, any other is yes. A kept event puts its stamp into the lowest free slot as well
@@ -182,26 +187,30 @@ uint8_t gulambitok_write(const uint8_t *book, size_t book_len, size_t slot, uint
                          size_t target_len);
 
 /* Before off the book, of two stamp records of exactly 20 bytes under a setup: writes 1 when the
- * first is before the second, else 0. Refusals: 2, 14, 15, 16. */
-uint8_t gulambitok_label_before(size_t desks, size_t phases, size_t clocks, size_t seat_lag,
-                                size_t shelf_lag, size_t back, size_t ahead, const uint8_t *first,
-                                size_t first_len, const uint8_t *second, size_t second_len,
-                                uint8_t *answer, size_t answer_len);
+ * first is before the second, else 0. Here and below a record reads only where each clock is below
+ * the limit of the desk that its pair is for. Refusals: 2, 14, 15, 16. */
+uint8_t gulambitok_label_before(size_t desks, size_t phases, const size_t *limits,
+                                size_t limits_len, size_t seat_lag, size_t shelf_lag, size_t back,
+                                size_t ahead, const uint8_t *first, size_t first_len,
+                                const uint8_t *second, size_t second_len, uint8_t *answer,
+                                size_t answer_len);
 
 /* Compare off the book asks both ways, of two stamp records under a setup: writes 1 before, 2
  * after, 3 same, 4 concurrent or 5 crossed. Refusals: 2, 14, 15, 16. */
-uint8_t gulambitok_label_compare(size_t desks, size_t phases, size_t clocks, size_t seat_lag,
-                                 size_t shelf_lag, size_t back, size_t ahead, const uint8_t *first,
-                                 size_t first_len, const uint8_t *second, size_t second_len,
-                                 uint8_t *answer, size_t answer_len);
+uint8_t gulambitok_label_compare(size_t desks, size_t phases, const size_t *limits,
+                                 size_t limits_len, size_t seat_lag, size_t shelf_lag, size_t back,
+                                 size_t ahead, const uint8_t *first, size_t first_len,
+                                 const uint8_t *second, size_t second_len, uint8_t *answer,
+                                 size_t answer_len);
 
 /* Newest of two stamp records under a setup: writes 1 when the first is after the other or they
  * are the same, 2 when the second is after the other, 0 when they are concurrent or crossed.
  * Refusals: 2, 14, 15, 16. */
-uint8_t gulambitok_label_newest(size_t desks, size_t phases, size_t clocks, size_t seat_lag,
-                                size_t shelf_lag, size_t back, size_t ahead, const uint8_t *first,
-                                size_t first_len, const uint8_t *second, size_t second_len,
-                                uint8_t *answer, size_t answer_len);
+uint8_t gulambitok_label_newest(size_t desks, size_t phases, const size_t *limits,
+                                size_t limits_len, size_t seat_lag, size_t shelf_lag, size_t back,
+                                size_t ahead, const uint8_t *first, size_t first_len,
+                                const uint8_t *second, size_t second_len, uint8_t *answer,
+                                size_t answer_len);
 
 #ifdef __cplusplus
 }

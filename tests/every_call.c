@@ -1,5 +1,5 @@
 /* Makes each call of gulambitok.h, accepted and refused, so that header and archive cannot differ
- * unseen. The setup is X, of three desks, where nothing else is said. */
+ * unseen. The setup is X, of three desks with limits of their own, where nothing else is said. */
 #include "gulambitok.h"
 
 #include <stdio.h>
@@ -38,19 +38,81 @@ static void done(const char *call, uint8_t answer)
 #define DONE(call) done(#call, call)
 #define EXPECT(held) expect(#held, held)
 #define BOOK now.book, sizeof now.book
-#define X 3, 5, 4, 2, 4, 2, 2
+#define LIST(...) (const size_t[]){__VA_ARGS__}, sizeof (const size_t[]){__VA_ARGS__} / sizeof(size_t)
+#define THREE(...) 3, 5, LIST(__VA_ARGS__), 2, 4, 2, 2
+#define X THREE(4, 3, 255)
+#define ROOMY THREE(40, 50, 60)
+#define TWO(...) 2, 5, LIST(__VA_ARGS__), 2, 4, 2, 2
+#define EIGHT 8, 5, LIST(40, 41, 42, 43, 44, 45, 46, 47), 2, 4, 2, 2
+
+static uint8_t *limit_in(size_t seat)
+{
+    return now.book + GULAMBITOK_SEATS_AT + GULAMBITOK_RECORD_BYTES * seat + GULAMBITOK_SEAT_LIMIT_AT;
+}
+
+/* No call but start changes a limit, and the seats above the desks have none. */
+static void limits_stand(void)
+{
+    const uint8_t limits[GULAMBITOK_SEATS] = {4, 3, 255};
+    for (size_t seat = 0; seat < GULAMBITOK_SEATS; seat++)
+        EXPECT(*limit_in(seat) == limits[seat]);
+}
+
+#define NO_LIMITS 3, 5, NULL, 0, 2, 4, 2, 2
+#define OUT_OF_RANGE 3, 5, limits, 3, 2, 4, 2, 2
+#define NO_LABELS NULL, 0, NULL, 0, NULL, 0
+
+/* Cut to a byte 260 would be 4, and so would the next be if cut to 32 bits. */
+static void limit_out_of_range(size_t desk)
+{
+    const size_t outside[] = {0, 1, 256, 260, ((size_t)1 << 32) + 4, SIZE_MAX};
+    for (size_t i = 0; i < sizeof outside / sizeof *outside; i++) {
+        size_t limits[] = {4, 4, 4};
+        limits[desk] = outside[i];
+        REFUSED(BAD_SETUP, gulambitok_start(BOOK, OUT_OF_RANGE));
+        REFUSED(BAD_SETUP, gulambitok_label_before(OUT_OF_RANGE, NO_LABELS));
+        REFUSED(BAD_SETUP, gulambitok_label_compare(OUT_OF_RANGE, NO_LABELS));
+        REFUSED(BAD_SETUP, gulambitok_label_newest(OUT_OF_RANGE, NO_LABELS));
+    }
+}
+
+/* Any book stays as it was where a list has other than D limits, or a number that is no limit. */
+static void limits_refused(void)
+{
+    REFUSED(BAD_SETUP, gulambitok_start(BOOK, NO_LIMITS));
+    REFUSED(BAD_SETUP, gulambitok_label_before(NO_LIMITS, NO_LABELS));
+    REFUSED(BAD_SETUP, gulambitok_label_compare(NO_LIMITS, NO_LABELS));
+    REFUSED(BAD_SETUP, gulambitok_label_newest(NO_LIMITS, NO_LABELS));
+    REFUSED(BAD_SETUP, gulambitok_start(BOOK, 3, 5, (const size_t[]){4, 3, 255}, 0, 2, 4, 2, 2));
+    REFUSED(BAD_SETUP, gulambitok_start(BOOK, THREE(4)));
+    REFUSED(BAD_SETUP, gulambitok_start(BOOK, THREE(4, 3)));
+    REFUSED(BAD_SETUP, gulambitok_start(BOOK, THREE(4, 3, 255, 2)));
+    REFUSED(BAD_SETUP, gulambitok_start(BOOK, THREE(4, 3, 255, 0, 0, 0, 0, 0)));
+    REFUSED(BAD_SETUP, gulambitok_start(BOOK, THREE(4, 3, 255, 2, 2, 2, 2, 2, 2)));
+    REFUSED(BAD_SETUP, gulambitok_start(BOOK, TWO(4, 3, 255)));
+    REFUSED(BAD_SETUP, gulambitok_start(BOOK, 9, 5, LIST(4, 4, 4, 4, 4, 4, 4, 4, 4), 2, 4, 2, 2));
+    REFUSED(BAD_SETUP, gulambitok_label_before(THREE(4, 3), NO_LABELS));
+    REFUSED(BAD_SETUP, gulambitok_label_compare(THREE(4, 3, 255, 2), NO_LABELS));
+    REFUSED(BAD_SETUP, gulambitok_label_newest(THREE(4, 3), NO_LABELS));
+    for (size_t desk = 0; desk < 3; desk++)
+        limit_out_of_range(desk);
+}
 
 static void start(void)
 {
     REFUSED(BAD_BOOK, gulambitok_start(now.book, sizeof now.book - 1, X));
-    REFUSED(BAD_SETUP, gulambitok_start(BOOK, 3, 4, 4, 2, 4, 2, 2));
-    REFUSED(BAD_SETUP, gulambitok_start(BOOK, 256 + 3, 5, 4, 2, 4, 2, 2));
-    REFUSED(BAD_SETUP, gulambitok_start(BOOK, 3, 5, 4, 2, 4, 3, 3));
+    REFUSED(BAD_BOOK, gulambitok_start(now.book, sizeof now.book - 1, NO_LIMITS));
+    REFUSED(BAD_SETUP, gulambitok_start(BOOK, 3, 4, LIST(4, 3, 255), 2, 4, 2, 2));
+    REFUSED(BAD_SETUP, gulambitok_start(BOOK, 256 + 3, 5, LIST(4, 3, 255), 2, 4, 2, 2));
+    REFUSED(BAD_SETUP, gulambitok_start(BOOK, 3, 5, LIST(4, 3, 255), 2, 4, 3, 3));
+    limits_refused();
     REFUSED(BAD_BOOK, gulambitok_local(BOOK, 0, 1, now.stamp, 20, now.slot, 1));
     REFUSED(BAD_BOOK, gulambitok_picture(BOOK, NULL, 0, now.answer, 1, now.odds, 2));
-    DONE(gulambitok_start(BOOK, 3, 5, 4, 2, 4, 3, 2));
+    DONE(gulambitok_start(BOOK, EIGHT));
+    DONE(gulambitok_start(BOOK, 3, 5, LIST(4, 3, 255), 2, 4, 3, 2));
     DONE(gulambitok_start(BOOK, X));
-    EXPECT(memcmp(now.book, "BK\3\5\4\2\4\2\2\0\0\0\0\0\0\0SE", 18) == 0);
+    EXPECT(memcmp(now.book, "BK\3\5\0\2\4\2\2\0\0\0\0\0\0\0SE\0\4", 20) == 0);
+    limits_stand();
 }
 
 /* 256 is a wish to keep like any other number but 0. */
@@ -68,6 +130,7 @@ static void local(void)
     EXPECT(now.slot[0] == 0 && now.slot[1] == 0xEE);
     EXPECT(memcmp(now.book + GULAMBITOK_SHELF_AT, "SH\3\0\0\0\0\0\0\1", 10) == 0);
     DONE(gulambitok_drop(BOOK, 0));
+    limits_stand();
 }
 
 static void send_and_receive(void)
@@ -97,6 +160,9 @@ static void send_and_receive(void)
     EXPECT(now.learnt[0] == 2 && now.learnt[1] == 0xEE);
     EXPECT(now.slot[0] == 1 && memcmp(now.stamp, "ST\2\3\0\2\0\2\0\2", 10) == 0);
     REFUSED(PHASE_FULL, gulambitok_local(BOOK, 0, 1, NULL, 0, NULL, 0));
+    REFUSED(PHASE_FULL, gulambitok_local(BOOK, 1, 1, NULL, 0, NULL, 0));
+    DONE(gulambitok_local(BOOK, 2, 0, now.stamp, 20, NULL, 0));
+    limits_stand();
 }
 
 /* Slot 0 is desk 0 at 0.3, slot 1 is desk 1, which has seen 0.2 alone. */
@@ -128,8 +194,9 @@ static void reset_and_labels(void)
     REFUSED(NO_ROOM, gulambitok_reset(BOOK, 0, 1, now.second, 20, NULL, 0));
     DONE(gulambitok_reset(BOOK, 0, 0, now.second, 20, NULL, 0));
     EXPECT(memcmp(now.second, "ST\0\3\1\0\0\0", 8) == 0);
-    REFUSED(BAD_SETUP, gulambitok_label_before(3, 4, 4, 2, 4, 2, 2, NULL, 0, NULL, 0, NULL, 0));
-    REFUSED(BAD_SETUP, gulambitok_label_before(3, 5, 4, 2, 4, 3, 3, NULL, 0, NULL, 0, NULL, 0));
+    REFUSED(BAD_SETUP, gulambitok_label_before(3, 4, LIST(4, 3, 255), 2, 4, 2, 2, NO_LABELS));
+    REFUSED(BAD_SETUP, gulambitok_label_before(3, 5, LIST(4, 3, 255), 2, 4, 3, 3, NO_LABELS));
+    limits_refused();
     REFUSED(BAD_STAMP, gulambitok_label_before(X, now.first, 21, now.second, 20, NULL, 0));
     REFUSED(NO_ROOM, gulambitok_label_before(X, now.first, 20, now.second, 20, NULL, 0));
     DONE(gulambitok_label_before(X, now.first, 20, now.second, 20, now.answer, 1));
@@ -146,6 +213,7 @@ static void reset_and_labels(void)
     EXPECT(now.slot[0] == 2 && now.slot[1] == 0xEE);
     REFUSED(SEAT_BEHIND, gulambitok_reset(BOOK, 0, 1, NULL, 0, NULL, 0));
     REFUSED(OUT_OF_REACH, gulambitok_label_newest(X, now.first, 20, now.second, 20, now.answer, 1));
+    limits_stand();
 }
 
 /* Desk 0's reset to 2.0 is in slot 2, its local 2.1 goes to slot 3; slots 0 and 1 are two phases back. */
@@ -169,10 +237,10 @@ static void reset_edge(void)
     REFUSED(NO_PLACE, gulambitok_drop(BOOK, 0));
 }
 
-/* Under L=40 locals fill the shelf. What is refused for it is refused whole, and the mail still waits. */
+/* Locals of one desk fill the shelf. What is refused for it is refused whole, and the mail still waits. */
 static void full_shelf(void)
 {
-    DONE(gulambitok_start(BOOK, 3, 5, 40, 2, 4, 2, 2));
+    DONE(gulambitok_start(BOOK, ROOMY));
     DONE(gulambitok_send(BOOK, 1, 2, 0, now.stamp, 20, now.place, 1, NULL, 0));
     for (int slot = 0; slot < GULAMBITOK_SLOTS; slot++) {
         DONE(gulambitok_local(BOOK, 0, 1, now.stamp, 20, now.slot, 1));
@@ -207,7 +275,7 @@ static uint8_t learnt(size_t desk, size_t place)
 /* Word goes round eight desks: each hears of one desk more, and the first of the seven others. */
 static void mail_that_tells_more(void)
 {
-    DONE(gulambitok_start(BOOK, 8, 5, 40, 2, 4, 2, 2));
+    DONE(gulambitok_start(BOOK, EIGHT));
     for (size_t desk = 0; desk < 7; desk++) {
         mail(desk, desk + 1);
         EXPECT(learnt(desk + 1, 0) == desk + 1);
@@ -219,10 +287,10 @@ static void mail_that_tells_more(void)
     EXPECT(now.learnt[0] == 1 && now.slot[0] == 0);
 }
 
-/* Under L=40 mails of desk 0 at 0.1, 0.2, 0.3 and, after its reset, 1.1 wait in places 0 to 3. */
+/* Mails of desk 0 at 0.1, 0.2, 0.3 and, after its reset, 1.1 wait in places 0 to 3. */
 static void mail_that_tells_nothing(void)
 {
-    DONE(gulambitok_start(BOOK, 3, 5, 40, 2, 4, 2, 2));
+    DONE(gulambitok_start(BOOK, ROOMY));
     for (int place = 0; place < 3; place++)
         mail(0, 1);
     DONE(gulambitok_reset(BOOK, 0, 0, now.stamp, 20, NULL, 0));
@@ -281,17 +349,16 @@ static void at_odds(const char *what, uint8_t answer, uint8_t lower, uint8_t hig
     pictured(what, answer);
 }
 
-#define SLOTS(...) (const size_t[]){__VA_ARGS__}, sizeof (const size_t[]){__VA_ARGS__} / sizeof(size_t)
-#define PICTURE(...) gulambitok_picture(BOOK, SLOTS(__VA_ARGS__), now.answer, 1, now.odds, 2)
+#define PICTURE(...) gulambitok_picture(BOOK, LIST(__VA_ARGS__), now.answer, 1, now.odds, 2)
 #define YES(call) yes(#call, call)
 #define AT_ODDS(lower, higher, call) at_odds(#call, call, lower, higher)
 
-/* Under L=40. In slots 1, 2 and 7 desk 0 is at 0.1, at 0.2 and, with 0.3 of desk 2, at 0.3; in slots 3
- * and 5 desk 1 is at 0.1 and 0.2, with 0.2 of desk 0, and in slot 5 0.2 of desk 2; in slots 0, 4 and 6
- * desk 2 is at 0.1, 0.2 and 0.3. */
+/* In slots 1, 2 and 7 desk 0 is at 0.1, at 0.2 and, with 0.3 of desk 2, at 0.3; in slots 3 and 5 desk 1
+ * is at 0.1 and 0.2, with 0.2 of desk 0, and in slot 5 0.2 of desk 2; in slots 0, 4 and 6 desk 2 is at
+ * 0.1, 0.2 and 0.3. */
 static void picture(void)
 {
-    DONE(gulambitok_start(BOOK, 3, 5, 40, 2, 4, 2, 2));
+    DONE(gulambitok_start(BOOK, ROOMY));
     memset(now.answer, 0xEE, sizeof now.answer);
     was = now;
     keep_local(2, 0);
@@ -309,8 +376,8 @@ static void picture(void)
     AT_ODDS(0, 2, PICTURE(7, 5, 0));
     AT_ODDS(0, 2, PICTURE(7, 5, 4));
     YES(PICTURE(7, 5, 6));
-    YES(gulambitok_picture(BOOK, SLOTS(7, 5, 6), now.answer, 2, now.odds, 3));
-    AT_ODDS(0, 1, gulambitok_picture(BOOK, SLOTS(1, 3, 0), now.answer, 2, now.odds, 3));
+    YES(gulambitok_picture(BOOK, LIST(7, 5, 6), now.answer, 2, now.odds, 3));
+    AT_ODDS(0, 1, gulambitok_picture(BOOK, LIST(1, 3, 0), now.answer, 2, now.odds, 3));
 }
 
 /* Of the same book. 256 cut to a byte would be slot 0, and 258 slot 2. */
@@ -327,14 +394,14 @@ static void picture_refused(void)
     REFUSED(NO_PLACE, PICTURE(2, 3, 256));
     REFUSED(NO_PLACE, PICTURE(258, 3, 0));
     REFUSED(NO_PLACE, gulambitok_picture(BOOK, NULL, 0, NULL, 0, NULL, 0));
-    REFUSED(NO_PLACE, gulambitok_picture(BOOK, SLOTS(2, 3, 8), now.answer, 0, now.odds, 1));
+    REFUSED(NO_PLACE, gulambitok_picture(BOOK, LIST(2, 3, 8), now.answer, 0, now.odds, 1));
     REFUSED(NO_PLACE, PICTURE(3, 2, 8));
-    REFUSED(NO_ROOM, gulambitok_picture(BOOK, SLOTS(2, 3, 0), now.answer, 0, now.odds, 2));
-    REFUSED(NO_ROOM, gulambitok_picture(BOOK, SLOTS(2, 3, 0), now.answer, 1, now.odds, 1));
-    REFUSED(NO_ROOM, gulambitok_picture(BOOK, SLOTS(2, 3, 0), now.answer, 1, NULL, 0));
-    REFUSED(NO_ROOM, gulambitok_picture(BOOK, SLOTS(1, 3, 0), NULL, 0, now.odds, 2));
-    REFUSED(NO_ROOM, gulambitok_picture(BOOK, SLOTS(1, 3, 0), now.answer, 1, now.odds, 1));
-    REFUSED(NO_ROOM, gulambitok_picture(BOOK, SLOTS(3, 2, 0), now.answer, 1, now.odds, 1));
+    REFUSED(NO_ROOM, gulambitok_picture(BOOK, LIST(2, 3, 0), now.answer, 0, now.odds, 2));
+    REFUSED(NO_ROOM, gulambitok_picture(BOOK, LIST(2, 3, 0), now.answer, 1, now.odds, 1));
+    REFUSED(NO_ROOM, gulambitok_picture(BOOK, LIST(2, 3, 0), now.answer, 1, NULL, 0));
+    REFUSED(NO_ROOM, gulambitok_picture(BOOK, LIST(1, 3, 0), NULL, 0, now.odds, 2));
+    REFUSED(NO_ROOM, gulambitok_picture(BOOK, LIST(1, 3, 0), now.answer, 1, now.odds, 1));
+    REFUSED(NO_ROOM, gulambitok_picture(BOOK, LIST(3, 2, 0), now.answer, 1, now.odds, 1));
     REFUSED(WRONG_OWNER, PICTURE(3, 2, 0));
     REFUSED(WRONG_OWNER, PICTURE(2, 3, 3));
     REFUSED(WRONG_OWNER, PICTURE(2, 2, 0));
@@ -355,8 +422,8 @@ static void picture_after_resets(void)
     REFUSED(OUT_OF_REACH, PICTURE(9, 11, 6));
     REFUSED(OUT_OF_REACH, PICTURE(11, 9, 6));
     REFUSED(OUT_OF_REACH, PICTURE(9, 10, 5));
-    REFUSED(NO_ROOM, gulambitok_picture(BOOK, SLOTS(9, 11, 6), now.answer, 0, now.odds, 2));
-    REFUSED(NO_ROOM, gulambitok_picture(BOOK, SLOTS(11, 9, 6), now.answer, 1, now.odds, 1));
+    REFUSED(NO_ROOM, gulambitok_picture(BOOK, LIST(9, 11, 6), now.answer, 0, now.odds, 2));
+    REFUSED(NO_ROOM, gulambitok_picture(BOOK, LIST(11, 9, 6), now.answer, 1, now.odds, 1));
     REFUSED(NO_PLACE, PICTURE(9, 11, 12));
     REFUSED(WRONG_OWNER, PICTURE(10, 10, 6));
     DONE(gulambitok_drop(BOOK, 6));
@@ -367,7 +434,7 @@ static void picture_after_resets(void)
  * desk 1, in slot 9, and desk 7, of desk 0, in slot 10, make more: 0 and 7 come before 1 and 2. */
 static void picture_of_eight(void)
 {
-    DONE(gulambitok_start(BOOK, 8, 5, 40, 2, 4, 2, 2));
+    DONE(gulambitok_start(BOOK, EIGHT));
     for (uint8_t desk = 0; desk < 8; desk++)
         keep_local(desk, desk);
     YES(PICTURE(0, 1, 2, 3, 4, 5, 6, 7));
@@ -383,6 +450,121 @@ static void picture_of_eight(void)
     REFUSED(NO_PLACE, PICTURE(0, 1, 2, 3, 4, 5, 6));
     REFUSED(NO_PLACE, PICTURE(0, 1, 2, 3, 4, 5, 6, 7, 8));
     REFUSED(WRONG_OWNER, PICTURE(0, 1, 2, 3, 4, 5, 7, 6));
+}
+
+static void unkept_local(size_t desk)
+{
+    DONE(gulambitok_local(BOOK, desk, 0, now.stamp, 20, NULL, 0));
+}
+
+/* Desk 1 has 0.3 of desk 0 in its seat, a clock above its own limit. */
+static void full_by_the_own_limit(void)
+{
+    DONE(gulambitok_start(BOOK, TWO(4, 2)));
+    unkept_local(0);
+    mail(0, 1);
+    mail(0, 1);
+    REFUSED(PHASE_FULL, gulambitok_send(BOOK, 0, 1, 0, now.stamp, 20, now.place, 1, NULL, 0));
+    EXPECT(learnt(1, 1) == 1 && memcmp(now.stamp, "ST\1\2\0\3\0\1\0\0", 10) == 0);
+    REFUSED(PHASE_FULL, gulambitok_local(BOOK, 1, 0, now.stamp, 20, NULL, 0));
+    REFUSED(PHASE_FULL, gulambitok_send(BOOK, 1, 0, 0, now.stamp, 20, now.place, 1, NULL, 0));
+    REFUSED(PHASE_FULL, gulambitok_receive(BOOK, 1, 0, 0, now.stamp, 20, now.learnt, 1, NULL, 0));
+    keep_reset(1, 0);
+    EXPECT(learnt(1, 0) == 0 && memcmp(now.stamp, "ST\1\2\0\3\1\1\0\0", 10) == 0);
+    REFUSED(PHASE_FULL, gulambitok_local(BOOK, 1, 0, now.stamp, 20, NULL, 0));
+}
+
+#define STAMP_TWICE now.stamp, 20, now.stamp, 20
+#define STAMP_FIRST now.stamp, 20, now.second, 20
+#define STAMP_SECOND now.second, 20, now.stamp, 20
+
+/* Of the same book: the record of its last event, 0.3 of desk 0 and 1.1 of desk 1, beside one of zeros. */
+static void records_by_the_limits(void)
+{
+    memcpy(now.second, "ST\1\2\0\0\0\0\0\0\0\0\0\0\0\0\0\0\0\0", 20);
+    was = now;
+    DONE(gulambitok_label_compare(TWO(4, 2), STAMP_TWICE, now.answer, 1));
+    EXPECT(now.answer[0] == GULAMBITOK_SAME);
+    DONE(gulambitok_label_before(TWO(4, 2), STAMP_SECOND, now.answer, 1));
+    EXPECT(now.answer[0] == 1);
+    DONE(gulambitok_label_newest(TWO(4, 2), STAMP_FIRST, now.answer, 1));
+    EXPECT(now.answer[0] == GULAMBITOK_FIRST);
+    REFUSED(BAD_STAMP, gulambitok_label_before(TWO(2, 4), STAMP_FIRST, now.answer, 1));
+    REFUSED(BAD_STAMP, gulambitok_label_before(TWO(2, 4), STAMP_SECOND, now.answer, 1));
+    REFUSED(BAD_STAMP, gulambitok_label_compare(TWO(2, 4), STAMP_TWICE, now.answer, 1));
+    REFUSED(BAD_STAMP, gulambitok_label_compare(TWO(3, 2), STAMP_SECOND, now.answer, 1));
+    REFUSED(BAD_STAMP, gulambitok_label_newest(TWO(3, 255), STAMP_FIRST, now.answer, 1));
+}
+
+/* A byte of the book is changed, and changed back. */
+static void spoilt(const char *what, uint8_t *byte, uint8_t spoil)
+{
+    uint8_t held = *byte;
+    *byte = spoil;
+    was = now;
+    refused(what, gulambitok_discard(BOOK, 31), GULAMBITOK_BAD_BOOK);
+    *byte = held;
+    was = now;
+    refused(what, gulambitok_discard(BOOK, 31), GULAMBITOK_NO_PLACE);
+}
+
+#define SPOILT(byte, spoil) spoilt(#byte " as " #spoil, byte, spoil)
+
+/* Of the same book: seat 1, place 0 and slot 1 have 0.3 of desk 0, and of desk 1 2.1, 2.1 and 2.0. */
+static void books_by_the_limits(void)
+{
+    uint8_t *seat_row = now.book + GULAMBITOK_SEATS_AT + GULAMBITOK_RECORD_BYTES + GULAMBITOK_ROW_AT;
+    uint8_t *mail_row = now.book + GULAMBITOK_MAIL_AT + GULAMBITOK_ROW_AT;
+    uint8_t *slot_row = now.book + GULAMBITOK_SHELF_AT + GULAMBITOK_RECORD_BYTES + GULAMBITOK_ROW_AT;
+    keep_reset(1, 1);
+    mail(1, 0);
+    SPOILT(limit_in(0), 3);
+    SPOILT(limit_in(0), 0);
+    SPOILT(limit_in(1), 1);
+    SPOILT(limit_in(1), 0);
+    SPOILT(limit_in(2), 2);
+    SPOILT(limit_in(7), 255);
+    SPOILT(now.book + GULAMBITOK_HEADER_PHASES_AT + 1, 4);
+    SPOILT(seat_row + 1, 4);
+    SPOILT(seat_row + 3, 2);
+    SPOILT(mail_row + 1, 4);
+    SPOILT(mail_row + 3, 2);
+    SPOILT(slot_row + 1, 4);
+    SPOILT(slot_row + 3, 2);
+    REFUSED(PHASE_FULL, gulambitok_local(BOOK, 1, 0, now.stamp, 20, NULL, 0));
+    *limit_in(1) = 3;
+    unkept_local(1);
+    REFUSED(PHASE_FULL, gulambitok_local(BOOK, 1, 0, now.stamp, 20, NULL, 0));
+}
+
+/* The least limit has room for one event in a phase, the largest for 254. */
+static void ends_of_the_range(void)
+{
+    DONE(gulambitok_start(BOOK, TWO(2, 255)));
+    SPOILT(limit_in(0), 1);
+    SPOILT(limit_in(1), 1);
+    unkept_local(0);
+    REFUSED(PHASE_FULL, gulambitok_local(BOOK, 0, 0, now.stamp, 20, NULL, 0));
+    for (int clock = 1; clock < 255; clock++)
+        unkept_local(1);
+    EXPECT(memcmp(now.stamp, "ST\1\2\0\0\0\xFE", 8) == 0);
+    REFUSED(PHASE_FULL, gulambitok_local(BOOK, 1, 0, now.stamp, 20, NULL, 0));
+    DONE(gulambitok_label_compare(TWO(2, 255), STAMP_TWICE, now.answer, 1));
+    REFUSED(BAD_STAMP, gulambitok_label_compare(TWO(2, 254), STAMP_TWICE, now.answer, 1));
+    EXPECT(*limit_in(0) == 2 && *limit_in(1) == 255 && *limit_in(2) == 0);
+}
+
+/* A book that has its one limit in the header, between P and M, is not sound. */
+static void one_limit_in_the_header(void)
+{
+    DONE(gulambitok_start(BOOK, ROOMY));
+    now.book[GULAMBITOK_HEADER_PHASES_AT + 1] = 40;
+    for (size_t seat = 0; seat < GULAMBITOK_SEATS; seat++)
+        *limit_in(seat) = 0;
+    was = now;
+    REFUSED(BAD_BOOK, gulambitok_local(BOOK, 0, 0, now.stamp, 20, NULL, 0));
+    DONE(gulambitok_start(BOOK, ROOMY));
+    unkept_local(0);
 }
 
 int main(void)
@@ -402,5 +584,10 @@ int main(void)
     picture_refused();
     picture_after_resets();
     picture_of_eight();
+    full_by_the_own_limit();
+    records_by_the_limits();
+    books_by_the_limits();
+    ends_of_the_range();
+    one_limit_in_the_header();
     return wrong;
 }

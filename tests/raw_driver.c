@@ -3,9 +3,10 @@
  *
  * A call is three bytes, its place in the header and how many numbers and buffers it is given; then
  * its numbers; then for each buffer its length, and the bytes lent with GUARD bytes on both sides.
- * Numbers and lengths are 64 bits as x86-64 has them; a list of slots is a buffer of such numbers. The
- * answer is its number in one byte, then the bytes of each buffer and its guards. It is flushed, so
- * that a call that ends the program is known. What does not read as a call ends it with 2.
+ * Numbers and lengths are 64 bits as x86-64 has them; a list of limits or slots is a buffer of such
+ * numbers, at the place of its pointer among the buffers. The answer is its number in one byte, then
+ * the bytes of each buffer and its guards. It is flushed, so that a call that ends the program is
+ * known. What does not read as a call ends it with 2.
  */
 #include "gulambitok.h"
 
@@ -13,7 +14,7 @@
 #include <stdlib.h>
 
 /* The guard is a whole count of numbers, so that a list begins where one may stand. */
-enum { GUARD = 24, NUMBERS = 7, BUFFERS = 4 };
+enum { GUARD = 24, NUMBERS = 6, BUFFERS = 4 };
 
 struct lent {
     size_t length;
@@ -35,14 +36,14 @@ static void take_lent(struct lent *lent)
     take(lent->memory, lent->length + 2 * GUARD);
 }
 
-#define SETUP n[0], n[1], n[2], n[3], n[4], n[5], n[6]
 #define LENT(i) lent[i].memory + GUARD, lent[i].length
 #define LIST(i) (const size_t *)(const void *)(lent[i].memory + GUARD), lent[i].length / sizeof(size_t)
+#define SETUP(i) n[0], n[1], LIST(i), n[2], n[3], n[4], n[5]
 
 static uint8_t call(uint8_t place, const size_t *n, const struct lent *lent)
 {
     switch (place) {
-    case 0: return gulambitok_start(LENT(0), SETUP);
+    case 0: return gulambitok_start(LENT(0), SETUP(1));
     case 1: return gulambitok_local(LENT(0), n[0], n[1], LENT(1), LENT(2));
     case 2: return gulambitok_send(LENT(0), n[0], n[1], n[2], LENT(1), LENT(2), LENT(3));
     case 3: return gulambitok_receive(LENT(0), n[0], n[1], n[2], LENT(1), LENT(2), LENT(3));
@@ -54,9 +55,9 @@ static uint8_t call(uint8_t place, const size_t *n, const struct lent *lent)
     case 9: return gulambitok_picture(LENT(0), LIST(1), LENT(2), LENT(3));
     case 10: return gulambitok_show(LENT(0), n[0], LENT(1));
     case 11: return gulambitok_write(LENT(0), n[0], LENT(1));
-    case 12: return gulambitok_label_before(SETUP, LENT(0), LENT(1), LENT(2));
-    case 13: return gulambitok_label_compare(SETUP, LENT(0), LENT(1), LENT(2));
-    case 14: return gulambitok_label_newest(SETUP, LENT(0), LENT(1), LENT(2));
+    case 12: return gulambitok_label_before(SETUP(0), LENT(1), LENT(2), LENT(3));
+    case 13: return gulambitok_label_compare(SETUP(0), LENT(1), LENT(2), LENT(3));
+    case 14: return gulambitok_label_newest(SETUP(0), LENT(1), LENT(2), LENT(3));
     }
     exit(2);
 }

@@ -1,6 +1,6 @@
 -- The C interface: a call's value goes into buffers that the caller lends, and a buffer too short is one more reason.
 -- Assumes nothing. In words: docs/RULES.md, "C interface".
---   setupBy D P L M A m n   the setup of the seven numbers
+--   numbersBy D P M A m n   the six numbers of a setup
 --   relationByte r   the byte of a relation
 --   one n            the byte n
 --   wished n         whether a caller who gives the number n wishes to keep the stamp: 0 is no, any other yes
@@ -35,7 +35,7 @@ use lib.Dec.{ltb, eqb}
 use lib.ListN.{length}
 use Rattle.tools.specs.Tests.{pick}
 use Rattle.tools.specs.Lists.{listed}
-use Rattle.rules.specs.declared.Setup.{Setup}
+use Rattle.rules.specs.declared.SetupNumbers.{SetupNumbers}
 use Rattle.rules.specs.declared.Relation.{Relation}
 use Rattle.rules.specs.declared.Relation.the-variants.{Before, After, Same, Concurrent, Crossed}
 use Rattle.rules.specs.Numbers.{NoRoom, number}
@@ -47,9 +47,8 @@ use Rattle.book.specs.Codec.{decode}
 use Rattle.book.specs.Stamps.{filled}
 use Rattle.book.specs.Answers.{answerTo, bookAfter, partIn, recordIn}
 
-abbrev pub setupBy : ℕ → ℕ → ℕ → ℕ → ℕ → ℕ → ℕ → Setup
-setupBy D P L M A m n =
-    record { desks = D; phases = P; clocks = L; seatLag = M; shelfLag = A; back = m; ahead = n }
+abbrev pub numbersBy : ℕ → ℕ → ℕ → ℕ → ℕ → ℕ → SetupNumbers
+numbersBy D P M A m n = record { desks = D; phases = P; seatLag = M; shelfLag = A; back = m; ahead = n }
 
 abbrev pub relationByte : Relation → ℕ
 relationByte Before = 1

@@ -13,7 +13,7 @@ ghost use Rattle.rules.specs.Labels.{newer};
 ghost use Rattle.book.specs.Layout.{recordSize};
 ghost use Rattle.book.specs.Stamps.{filled};
 ghost use Rattle.rules.specs.Replies.{slotIn, stampedSays, receivedSays, postedSays, toldSays, comparedSays, picturedSays};
-ghost use Rattle.door.specs.Door.{setupBy, relationByte, whichByte, one, byteTo, placeTo, learntTo, slotTo};
+ghost use Rattle.door.specs.Door.{numbersBy, relationByte, whichByte, one, byteTo, placeTo, learntTo, slotTo};
 ghost use Rattle.door.specs.Door.{oddsTo, whichTo, recordTo};
 ghost use Rattle.door.specs.Door.{cramped, Gets, Gives, GivesByte};
 use rules::Compared;
@@ -23,7 +23,7 @@ use rules::Posted;
 use rules::Received;
 use rules::Relation;
 use rules::Sent;
-use rules::Setup;
+use rules::SetupNumbers;
 use rules::Stamped;
 use rules::Told;
 
@@ -227,21 +227,19 @@ pub fn give_sent(stamp: &mut [u8], place: &mut [u8], slot: &mut [u8], desks: u8,
     }
 }
 
-pub fn setup_by(
+pub fn numbers_by(
     desks: usize,
     phases: usize,
-    clocks: usize,
     seatLag: usize,
     shelfLag: usize,
     back: usize,
     ahead: usize,
-) -> Setup
-    ensures { λ r. ⌜ r ≡ setupBy desks phases clocks seatLag shelfLag back ahead ⌝ }
+) -> SetupNumbers
+    ensures { λ r. ⌜ r ≡ numbersBy desks phases seatLag shelfLag back ahead ⌝ }
 {
-    Setup {
+    SetupNumbers {
         desks: desks,
         phases: phases,
-        clocks: clocks,
         seatLag: seatLag,
         shelfLag: shelfLag,
         back: back,

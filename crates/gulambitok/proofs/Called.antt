@@ -14,7 +14,8 @@ use Rattle.tools.specs.Tests.{pick}
 use Rattle.tools.specs.Lists.{byte, listed}
 use Rattle.tools.proofs.Tests.{or-false-l, or-false-r}
 use Rattle.tools.proofs.Lists.{length-tab}
-use Rattle.rules.specs.declared.Setup.{Setup}
+use Rattle.rules.specs.declared.SetupNumbers.{SetupNumbers}
+use Rattle.rules.specs.Setups.{setupWith}
 use Rattle.rules.specs.declared.Stamp.{Stamp}
 use Rattle.rules.specs.declared.Kept.{Kept}
 use Rattle.rules.specs.declared.Posted.{Posted}
@@ -33,18 +34,18 @@ use Rattle.door.specs.Door.{one, Lent, lent, slotTo, rowTo, recordTo, stampTo, 
 use Rattle.door.proofs.Given.{fills-none, lending, no-room, has-room}
 
 -- a setup of the same numbers
-module _ (X Y : Setup) (x : X ≡ Y) where
-  pub before-by : (d e : List ℕ) (a : Answer) → a ≡ beforeOf X d e → a ≡ beforeOf Y d e
-  before-by d e a h = rw x at h
+module _ (x y : SetupNumbers) (q : x ≡ y) (l : List ℕ) where
+  pub before-by : (d e : List ℕ) (a : Answer) → a ≡ beforeOf (setupWith x l) d e → a ≡ beforeOf (setupWith y l) d e
+  before-by d e a h = rw q at h
 
-  pub compare-by : (d e : List ℕ) (a : Answer) → a ≡ compareOf X d e → a ≡ compareOf Y d e
-  compare-by d e a h = rw x at h
+  pub compare-by : (d e : List ℕ) (a : Answer) → a ≡ compareOf (setupWith x l) d e → a ≡ compareOf (setupWith y l) d e
+  compare-by d e a h = rw q at h
 
-  pub answer-by : (s : List ℕ) (a : Answer) → a ≡ answerTo s (start X) → a ≡ answerTo s (start Y)
-  answer-by s a h = rw x at h
+  pub answer-by : (s : List ℕ) (a : Answer) → a ≡ answerTo s (start (setupWith x l)) → a ≡ answerTo s (start (setupWith y l))
+  answer-by s a h = rw q at h
 
-  pub book-by : (s b : List ℕ) → b ≡ bookAfter s (start X) → b ≡ bookAfter s (start Y)
-  book-by s b h = rw x at h
+  pub book-by : (s b : List ℕ) → b ≡ bookAfter s (start (setupWith x l)) → b ≡ bookAfter s (start (setupWith y l))
+  book-by s b h = rw q at h
 
 -- the same answer
 pub answered : (a b : Answer) (ls : List Lent) (r : ℕ) → a ≡ b → Gives a ls r → Gives b ls r

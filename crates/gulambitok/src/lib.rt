@@ -3,11 +3,12 @@
 ghost use mathlib.Core.Path.{_≡_};
 ghost use mathlib.Core.List.{[], _∷_};
 ghost use lib.ListN.{length};
+ghost use Rattle.rules.specs.Setups.{setupWith};
 ghost use Rattle.rules.specs.Model;
 ghost use Rattle.rules.specs.Calls;
 ghost use Rattle.rules.specs.Calls.{on};
 ghost use Rattle.book.specs.Answers.{answerTo, targetAfter, beforeOf, compareOf};
-ghost use Rattle.door.specs.Door.{setupBy, wished, byteTo, oddsTo, placeTo, learntTo, slotTo, whichTo, rowTo, stampTo};
+ghost use Rattle.door.specs.Door.{numbersBy, wished, byteTo, oddsTo, placeTo, learntTo, slotTo, whichTo, rowTo, stampTo};
 ghost use Rattle.door.specs.Door.{Gives, Makes};
 
 // Start writes a fresh book: rows zero, no seat started, all places free.
@@ -16,18 +17,19 @@ pub extern "C" fn gulambitok_start(
     book: &mut [u8],
     desks: usize,
     phases: usize,
-    clocks: usize,
+    limits: &[usize],
     seatLag: usize,
     shelfLag: usize,
     back: usize,
     ahead: usize,
 ) -> u8
-    ensures { λ r. ⌜ Makes (Calls.start (setupBy desks phases clocks seatLag shelfLag back ahead))
+    ensures { λ r. ⌜ Makes (Calls.start (setupWith (numbersBy desks phases seatLag shelfLag back ahead) (now (limits .entry))))
         (now (book .entry)) (now (book .exit)) [] r ⌝ }
 {
     portal::start(
         book,
-        door::setup_by(desks, phases, clocks, seatLag, shelfLag, back, ahead),
+        door::numbers_by(desks, phases, seatLag, shelfLag, back, ahead),
+        limits,
     )
 }
 
@@ -220,7 +222,7 @@ pub extern "C" fn gulambitok_write(book: &[u8], slot: usize, target: &mut [u8]) 
 pub extern "C" fn gulambitok_label_before(
     desks: usize,
     phases: usize,
-    clocks: usize,
+    limits: &[usize],
     seatLag: usize,
     shelfLag: usize,
     back: usize,
@@ -230,11 +232,11 @@ pub extern "C" fn gulambitok_label_before(
     answer: &mut [u8],
 ) -> u8
     ensures { λ r. ⌜ Gives
-        (beforeOf (setupBy desks phases clocks seatLag shelfLag back ahead) (now (first .entry)) (now (second .entry)))
+        (beforeOf (setupWith (numbersBy desks phases seatLag shelfLag back ahead) (now (limits .entry))) (now (first .entry)) (now (second .entry)))
         (byteTo (now (answer .entry)) (now (answer .exit)) ∷ []) r ⌝ }
 {
-    let s = door::setup_by(desks, phases, clocks, seatLag, shelfLag, back, ahead);
-    door::give_told(answer, labels::before(s, first, second))
+    let s = door::numbers_by(desks, phases, seatLag, shelfLag, back, ahead);
+    door::give_told(answer, labels::before(s, limits, first, second))
 }
 
 // Compare, of two stamp records: 1 before, 2 after, 3 same, 4 concurrent, 5 crossed.
@@ -242,7 +244,7 @@ pub extern "C" fn gulambitok_label_before(
 pub extern "C" fn gulambitok_label_compare(
     desks: usize,
     phases: usize,
-    clocks: usize,
+    limits: &[usize],
     seatLag: usize,
     shelfLag: usize,
     back: usize,
@@ -252,11 +254,11 @@ pub extern "C" fn gulambitok_label_compare(
     answer: &mut [u8],
 ) -> u8
     ensures { λ r. ⌜ Gives
-        (compareOf (setupBy desks phases clocks seatLag shelfLag back ahead) (now (first .entry)) (now (second .entry)))
+        (compareOf (setupWith (numbersBy desks phases seatLag shelfLag back ahead) (now (limits .entry))) (now (first .entry)) (now (second .entry)))
         (byteTo (now (answer .entry)) (now (answer .exit)) ∷ []) r ⌝ }
 {
-    let s = door::setup_by(desks, phases, clocks, seatLag, shelfLag, back, ahead);
-    door::give_relation(answer, labels::compare(s, first, second))
+    let s = door::numbers_by(desks, phases, seatLag, shelfLag, back, ahead);
+    door::give_relation(answer, labels::compare(s, limits, first, second))
 }
 
 // Newest of two stamp records: 1 the first, 2 the second, 0 neither.
@@ -264,7 +266,7 @@ pub extern "C" fn gulambitok_label_compare(
 pub extern "C" fn gulambitok_label_newest(
     desks: usize,
     phases: usize,
-    clocks: usize,
+    limits: &[usize],
     seatLag: usize,
     shelfLag: usize,
     back: usize,
@@ -274,9 +276,9 @@ pub extern "C" fn gulambitok_label_newest(
     answer: &mut [u8],
 ) -> u8
     ensures { λ r. ⌜ Gives
-        (compareOf (setupBy desks phases clocks seatLag shelfLag back ahead) (now (first .entry)) (now (second .entry)))
+        (compareOf (setupWith (numbersBy desks phases seatLag shelfLag back ahead) (now (limits .entry))) (now (first .entry)) (now (second .entry)))
         (whichTo (now (answer .entry)) (now (answer .exit)) ∷ []) r ⌝ }
 {
-    let s = door::setup_by(desks, phases, clocks, seatLag, shelfLag, back, ahead);
-    door::give_newest(answer, labels::compare(s, first, second))
+    let s = door::numbers_by(desks, phases, seatLag, shelfLag, back, ahead);
+    door::give_newest(answer, labels::compare(s, limits, first, second))
 }
