@@ -3,10 +3,12 @@
 Every call takes the book (bytes of any length) and whole numbers of any size,
 and hands back (number, values, book): the answer number, the values (none when
 refused) and the bytes afterwards (the book it was lent when nothing changes).
-The lent book itself is never written to. An event's last number is the wish to
-keep its stamp: 0 is no, any other is yes, and its slot is then the last value.
-Between the stamp and any slot receive says how many other desks' entries changed.
-Picture takes any number of slots; its values are a yes, or the two desks at odds.
+The lent book itself is never written to. Among the numbers of a setup stands a
+list of any length, the clock limits of the desks. An event's last number is the
+wish to keep its stamp: 0 is no, any other is yes, and its slot is then the last
+value. Between the stamp and any slot receive says how many other desks' entries
+changed. Picture takes any number of slots; its values are a yes, or the two desks
+at odds.
 
 Off the book, the calls take a setup and two stamp records and hand back
 (number, values).
@@ -34,24 +36,37 @@ STAMP_MARK = bytes.fromhex("5354")
 NO_ROW = bytes(ROW_BYTES)
 FREE = bytes(RECORD_BYTES - 2)
 
-Setup = namedtuple("Setup", "D P L M A m n")
+Setup = namedtuple("Setup", "D P limits M A m n")
 Stamp = namedtuple("Stamp", "owner row")
 
-RANGES = ((2, 8), (3, 255), (2, 255), (1, 127), (1, 254), (1, 127), (1, 127))
+RANGES = {"D": (2, 8), "P": (3, 255), "M": (1, 127), "A": (1, 254), "m": (1, 127), "n": (1, 127)}
+LIMIT_RANGE = 2, 255
 
 
 # Setup
 
 def permitted(setup):
-    if not all(low <= number <= high
-               for number, (low, high) in zip(setup, RANGES)):
+    D, P, limits, M, A, m, n = setup
+    if not all(in_range(number, *ends)
+               for number, ends in zip((D, P, M, A, m, n), RANGES.values())):
         return False
-    D, P, L, M, A, m, n = setup
-    return A >= M and P >= 2 * M + 1 and P >= A + 1 and P >= m + n
+    return (limited(D, limits)
+            and A >= M and P >= 2 * M + 1 and P >= A + 1 and P >= m + n)
+
+
+def in_range(number, low, high):
+    return low <= number <= high
+
+
+def limited(D, limits):
+    """A limit for each desk, and no more of them."""
+    return len(limits) == D and all(in_range(limit, *LIMIT_RANGE) for limit in limits)
 
 
 def setup_of(book):
-    return Setup(*book[2:9])
+    """The header has no limits: they stand in the seats of the desks below D."""
+    D, P, _, M, A, m, n = book[2:9]
+    return Setup(D, P, tuple(book[limit_at(0):MAIL_AT:RECORD_BYTES][:D]), M, A, m, n)
 
 
 # Where the records lie
@@ -66,6 +81,10 @@ def place_at(place):
 
 def slot_at(slot):
     return SHELF_AT + RECORD_BYTES * slot
+
+
+def limit_at(desk):
+    return seat_at(desk) + 3
 
 
 def row_at(book, record):
@@ -96,6 +115,7 @@ def sound(book):
     return (len(book) == BOOK_BYTES
             and marks_hold(book)
             and permitted(setup_of(book))
+            and book[4] == 0
             and not any(book[9:SEAT_AT])
             and seats_sound(book)
             and mail_sound(book)
@@ -115,26 +135,26 @@ def column_holds(book, start, end, mark):
             and book[start + 1:end:RECORD_BYTES] == mark[1:] * count)
 
 
-def row_sound(row, setup, own, limit):
-    """Phases, clocks and filler in range, and no lag above the limit."""
-    P, L = setup.P, setup.L
-    filler = 2 * setup.D
-    for phase, clock, now in zip(row[0:filler:2], row[1:filler:2], own):
-        if phase >= P or clock >= L or lag_behind(now, phase, P) > limit:
+def row_sound(row, setup, own, most):
+    """Phases, clocks and filler in range, and no lag above the most; a clock goes by its column's desk."""
+    P, filler = setup.P, 2 * setup.D
+    for phase, clock, limit, now in zip(row[0:filler:2], row[1:filler:2], setup.limits, own):
+        if phase >= P or clock >= limit or lag_behind(now, phase, P) > most:
             return False
     return row[filler:] == NO_ROW[filler:]
 
 
 def seats_sound(book):
+    """The limits of desks below D are asked as the setup's."""
     setup, own = setup_of(book), own_phases(book)
     for desk in range(SEATS):
         at = seat_at(desk)
         started, row = book[at + 2], row_at(book, at)
-        if started > 1 or book[at + 3] != 0:
+        if started > 1:
             return False
         if started == 0 and row != NO_ROW:
             return False
-        if desk >= setup.D and started == 1:
+        if desk >= setup.D and (started == 1 or book[limit_at(desk)] != 0):
             return False
         if desk < setup.D and not row_sound(row, setup, own, setup.M):
             return False
@@ -191,7 +211,7 @@ def lowest_free_slot(book):
 
 
 def phase_full(book, desk):
-    return book[own_entry(desk) + 1] == setup_of(book).L - 1
+    return book[own_entry(desk) + 1] == book[limit_at(desk)] - 1
 
 
 def shelf_full(book, keep):
@@ -233,15 +253,21 @@ def later(book, desk, held, told):
     return pair, pair != held
 
 
-def start(book, *numbers):
+def start(book, *setup):
     if len(book) != BOOK_BYTES:
         return refused(BAD_BOOK, book)
-    if not permitted(numbers):
+    if not permitted(setup):
         return refused(BAD_SETUP, book)
-    header = HEADER_MARK + bytes(numbers) + bytes(7)
-    return DONE, (), (header + (SEAT_MARK + FREE) * SEATS
+    return DONE, (), (fresh_head(*setup)
                       + (MAIL_MARK + FREE) * PLACES
                       + (SHELF_MARK + FREE) * SLOTS)
+
+
+def fresh_head(D, P, limits, M, A, m, n):
+    """The header, and eight seats not started, each desk's limit in its own."""
+    header = HEADER_MARK + bytes((D, P, 0, M, A, m, n)) + bytes(7)
+    limits = [*limits, *[0] * (SEATS - D)]
+    return header + b"".join(SEAT_MARK + bytes((0, limit)) + NO_ROW for limit in limits)
 
 
 def put_on_shelf(after, desk, keep):
@@ -585,7 +611,9 @@ def read_stamp(setup, record):
     filler = 2 * setup.D
     if owner >= setup.D or D != setup.D or any(row[filler:]):
         return None
-    if max(row[0:filler:2]) >= setup.P or max(row[1:filler:2]) >= setup.L:
+    if max(row[0:filler:2]) >= setup.P:
+        return None
+    if any(clock >= limit for clock, limit in zip(row[1:filler:2], setup.limits)):
         return None
     return Stamp(owner, row)
 

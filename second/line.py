@@ -15,8 +15,10 @@ from itertools import combinations
 PLACES = SLOTS = 32
 
 
-def permitted(D, P, L, M, A, m, n):
-    if D not in range(2, 9) or P not in range(3, 256) or L not in range(2, 256):
+def permitted(D, P, limits, M, A, m, n):
+    if D not in range(2, 9) or P not in range(3, 256):
+        return False
+    if [limit in range(2, 256) for limit in limits] != [True] * D:
         return False
     if M not in range(1, 128) or m not in range(1, 128) or n not in range(1, 128):
         return False
@@ -85,7 +87,7 @@ class Run:
 
     def __init__(self, *setup):
         self.setup = setup
-        self.D, self.P, self.L, self.M, self.A, self.m, self.n = setup
+        self.D, self.P, self.limits, self.M, self.A, self.m, self.n = setup
         self.events = []
         self.last = [None] * self.D
         self.mail = [None] * PLACES
@@ -100,8 +102,12 @@ class Run:
     def own(self, desk):
         return self.pairs(desk)[desk]
 
+    def left(self, desk):
+        """How many clock values of its own the desk has left in its phase."""
+        return self.limits[desk] - 1 - self.own(desk)[1]
+
     def full(self, desk):
-        return self.own(desk)[1] == self.L - 1
+        return self.left(desk) == 0
 
     def behind(self, desk, pairs):
         """How many true phases a row is behind a desk."""
@@ -296,9 +302,10 @@ class Run:
         return b"ST" + bytes((event.desk, self.D)) + self.row(event.pairs)
 
     def book(self):
-        parts = [b"BK", bytes(self.setup), bytes(7)]
-        for event in self.last + [None] * (8 - self.D):
-            parts += [b"SE", b"\1\0" + self.row(event.pairs) if event else bytes(18)]
+        parts = [b"BK", bytes((self.D, self.P, 0, self.M, self.A, self.m, self.n)), bytes(7)]
+        for limit, event in zip(self.limits, self.last):
+            parts += [b"SE", bytes((bool(event), limit)), self.row(event.pairs if event else ())]
+        parts += [b"SE", bytes(18)] * (8 - self.D)
         for mail in self.mail:
             parts += [b"MA", self.mail_bytes(*mail) if mail else bytes(18)]
         for event in self.shelf:

@@ -16,9 +16,10 @@ sys.path.insert(0, os.path.dirname(os.path.dirname(os.path.abspath(__file__))))
 
 from second import book, line
 
-VERBS = {b"start": 7, b"local": 2, b"send": 3, b"receive": 3, b"reset": 2,
+# How many numbers follow each verb; a start has any number of limits, a picture any number of slots.
+VERBS = {b"local": 2, b"send": 3, b"receive": 3, b"reset": 2,
          b"drop": 1, b"discard": 1, b"before": 2, b"compare": 2}
-LIST_VERBS = (b"picture",)
+LIST_VERBS = (b"start", b"picture")
 EVENTS = ("local", "send", "receive", "reset")
 QUESTIONS = ("before", "compare")
 LONGEST = 64
@@ -45,7 +46,19 @@ def parse(text):
         return None
     if verb in EVENTS and numbers[-1] not in (0, 1):
         return None
-    return verb, numbers
+    if verb == "start":
+        numbers = setup_in(numbers)
+    return None if numbers is None else (verb, numbers)
+
+
+def setup_in(numbers):
+    """The setup of a start line: limits are counted where D is good; None where it is a BadLine."""
+    if len(numbers) < 6:
+        return None
+    D, P, *limits, M, A, m, n = numbers
+    if D in range(2, 9) and len(limits) != D:
+        return None
+    return D, P, limits, M, A, m, n
 
 
 def in_words(number, fields=()):

@@ -8,7 +8,9 @@ is asked for. A prefix to run it by is given by --runner. `tests/raw` builds it.
 
 Sound books made at random (unreachable ones too), full shelves, mail that tells
 of none to all, pictures with each two desks at odds and lists that do not fit,
-bytes damaged at every offset, phases off the ring, wrong lengths and odd numbers.
+clocks about their desk's limit in every kind of row, limits that are not there,
+not due or too many, bytes damaged at every offset, phases off the ring, wrong
+lengths and odd numbers.
 The answer and every byte of every lent buffer, and of the bytes on both sides of
 it, must be alike.
 The first difference is printed and ends with 1.
@@ -29,9 +31,9 @@ sys.path.insert(0, os.path.dirname(os.path.dirname(os.path.abspath(__file__))))
 from second import book, seeds
 from second.listing import EVENTS
 
-# How many numbers each call takes, and the bytes its value buffers need. Picture's are a buffer, too.
+# How many numbers each call takes, and the bytes its value buffers need. Limits and slots are lent as buffers.
 BOOK_CALLS = {
-    "start": (7, ()), "local": (2, (20, 1)), "send": (3, (20, 1, 1)),
+    "start": (6, ()), "local": (2, (20, 1)), "send": (3, (20, 1, 1)),
     "receive": (3, (20, 1, 1)), "reset": (2, (20, 1)), "drop": (1, ()),
     "discard": (1, ()), "before": (2, (1,)), "compare": (2, (1,)), "picture": (0, (1, 2)),
     "show": (1, (16,)), "write": (1, (20,)),
@@ -53,14 +55,14 @@ LATER, EQUAL, OLDER = -1, 0, 1
 # What a picture answers: its number, and how many values.
 PICTURES = ((0, 1), (0, 2), (1, 0), (5, 0), (16, 0), (18, 0))
 
-# Added to a slot they are another number, but the same in 8, 16, 32 or 63 bits.
+# Added to a slot or a limit they are another number, but the same in 8, 16, 32 or 63 bits.
 WIDER = (256, 2**16, 2**32, 2**63)
 
 RELATIONS = ("before", "after", "same", "concurrent", "crossed")
 WRONG_LENGTHS = (0, 1, 1455, 1457)
 WRONG_LABEL_LENGTHS = (0, 1, 2, 19, 21, 40)
 GUARD = 24
-DEFAULT_CALLS = 8200
+DEFAULT_CALLS = 9900
 SOUND_BOOKS = 600
 BATCH = 250
 
@@ -92,13 +94,22 @@ def word(number):
     return number.to_bytes(8, "little")
 
 
-def listed(rng, slots):
-    """A list of slots as it is lent."""
-    return Lent(rng, b"".join(map(word, slots)))
+def listed(rng, numbers):
+    """A list of limits or slots as it is lent."""
+    return Lent(rng, b"".join(map(word, numbers)))
 
 
-def slots_in(content):
+def numbers_in(content):
     return [int.from_bytes(content[at:at + 8], "little") for at in range(0, len(content), 8)]
+
+
+def setup_lent(rng, D, P, limits, *lags):
+    return [D, P, listed(rng, limits), *lags]
+
+
+def setup_in(numbers, content):
+    D, P, *lags = numbers
+    return D, P, numbers_in(content), *lags
 
 
 def frame(asked):
@@ -138,12 +149,14 @@ def answer_of(name, arguments):
     numbers, lent = parted(arguments)
     lent = [buffer.content() for buffer in lent]
     if name in LABEL_CALLS:
-        number, values = getattr(book, name)(numbers, *lent[:2])
+        number, values = getattr(book, name)(setup_in(numbers, lent[0]), *lent[1:3])
         return number, None, values
+    if name == "start":
+        numbers = setup_in(numbers, lent[1])
     if name == "write":
         numbers.append(lent[1])
     if name == "picture":
-        numbers = slots_in(lent[1])
+        numbers = numbers_in(lent[1])
     number, values, after = getattr(book, name)(lent[0], *numbers)
     if name == "send" and number == book.DONE:
         place, stamp, *slot = values
@@ -189,42 +202,59 @@ def expected(name, arguments):
 def any_setup(rng):
     if rng.random() < 0.5:
         return book.Setup(*seeds.good_setup(rng))
+    D = rng.randint(2, 8)
     P = rng.choice((3, 4, 5, 128, 254, 255, rng.randint(3, 255)))
     M = rng.randint(1, (P - 1) // 2)
-    L = rng.choice((2, 3, 4, 255, rng.randint(2, 255)))
-    return book.Setup(rng.randint(2, 8), P, L, M, rng.randint(M, P - 1),
+    return book.Setup(D, P, seeds.some_limits(rng, D), M, rng.randint(M, P - 1),
                       *seeds.some_reach(rng, P))
 
 
-def some(rng, limit):
-    """A number up to a limit, mostly at one of its ends."""
+def setup_of_desks(rng, D):
+    return any_setup(rng)._replace(D=D, limits=seeds.some_limits(rng, D))
+
+
+def setup_beside(rng, D, desk, way):
+    """The others' limits are all smaller than a desk's, or all larger."""
+    limit = rng.choice((3, 4, 5, 200, 254))
+    others = rng.choice((2, limit - 1) if way < 0 else (limit + 1, 255))
+    return setup_of_desks(rng, D)._replace(limits=seeds.placed([others] * D, desk, limit))
+
+
+def some(rng, most):
+    """A number up to the most, mostly at one end."""
     if rng.random() < 0.6:
-        return rng.choice((0, limit, max(0, limit - 1)))
-    return rng.randint(0, limit)
+        return rng.choice((0, most, max(0, most - 1)))
+    return rng.randint(0, most)
 
 
-def random_row(rng, setup, own, limit):
+def random_row(rng, setup, own, most):
     row = bytearray(16)
-    high = limit if rng.random() < 0.3 else max(0, limit - 1)
+    high = most if rng.random() < 0.3 else max(0, most - 1)
     for desk in range(setup.D):
         row[2 * desk] = (own[desk] - some(rng, high)) % setup.P
-        row[2 * desk + 1] = some(rng, setup.L - 1)
+        row[2 * desk + 1] = some(rng, setup.limits[desk] - 1)
     return bytes(row)
 
 
-def random_seats(rng, setup):
-    """Which seats have started, and each desk's own phase."""
-    started = [rng.random() < 0.7 for _ in range(setup.D)]
+def random_started(rng, D):
     if rng.random() < 0.6:
-        started = [True] * setup.D
+        return [True] * D
+    return [rng.random() < 0.7 for _ in range(D)]
+
+
+def random_phases(rng, setup, started):
+    """Each desk's own phase."""
     highest = setup.P - 1 if all(started) else setup.M
-    return started, [some(rng, highest) if begun else 0 for begun in started]
+    return [some(rng, highest) if begun else 0 for begun in started]
 
 
-def random_seat(rng, setup, own, desk):
+def random_seat(rng, setup, own, desk, begun):
+    limit = setup.limits[desk]
+    if not begun:
+        return bytes((0, limit)) + book.NO_ROW
     row = bytearray(random_row(rng, setup, own, setup.M))
     row[2 * desk] = own[desk]
-    return b"\1\0" + row
+    return bytes((1, limit)) + row
 
 
 def random_mail(rng, setup, own):
@@ -252,13 +282,14 @@ def sound_book(rng):
     return sound_book_of(rng, any_setup(rng))
 
 
-def sound_book_of(rng, setup):
-    started, own = random_seats(rng, setup)
-    started += [False] * (8 - setup.D)
-    seats = [random_seat(rng, setup, own, desk) if begun else book.FREE
-             for desk, begun in enumerate(started)]
-    made = (book.HEADER_MARK + bytes(setup) + bytes(7)
+def sound_book_of(rng, setup, started=None):
+    started = started or random_started(rng, setup.D)
+    own = random_phases(rng, setup, started)
+    D, P, _, *lags = setup
+    seats = [random_seat(rng, setup, own, desk, begun) for desk, begun in enumerate(started)]
+    made = (book.HEADER_MARK + bytes((D, P, 0, *lags)) + bytes(7)
             + b"".join(book.SEAT_MARK + seat for seat in seats)
+            + (book.SEAT_MARK + book.FREE) * (8 - D)
             + random_room(rng, book.MAIL_MARK, lambda: random_mail(rng, setup, own))
             + random_room(rng, book.SHELF_MARK, lambda: random_slot(rng, setup, own)))
     if not book.sound(made):
@@ -266,19 +297,23 @@ def sound_book_of(rng, setup):
     return made
 
 
+def fresh_book(setup):
+    return book.start(bytes(book.BOOK_BYTES), *setup)[2]
+
+
 def kind_of(held, told):
     """Of two ages less is later."""
     return (told > held) - (told < held)
 
 
-def two_ages(rng, setup, is_own, kind):
+def two_ages(rng, M, limit, is_own, kind):
     """The ages of a held pair and of one in mail: the lag, and how many clock values are left."""
     while True:
-        held = some(rng, setup.M), some(rng, setup.L - 1)
+        held = some(rng, M), some(rng, limit - 1)
         if is_own:
             # So the receipt is not refused.
-            held = 0, 1 + some(rng, setup.L - 2)
-        told = held if kind == EQUAL else (some(rng, 2 * setup.M), some(rng, setup.L - 1))
+            held = 0, 1 + some(rng, limit - 2)
+        told = held if kind == EQUAL else (some(rng, 2 * M), some(rng, limit - 1))
         if kind_of(held, told) == kind:
             return held, told
 
@@ -287,19 +322,21 @@ def two_rows(rng, content, desk, kinds):
     """A desk's row and one in mail to it that is of this kind for each desk, the receiver's own too."""
     setup, seat, mail = book.setup_of(content), bytearray(16), bytearray(16)
     for other, kind in enumerate(kinds):
-        own = content[book.own_entry(other)]
-        for row, (lag, left) in zip((seat, mail), two_ages(rng, setup, other == desk, kind)):
-            row[2 * other:2 * other + 2] = (own - lag) % setup.P, setup.L - 1 - left
+        own, limit = content[book.own_entry(other)], setup.limits[other]
+        ages = two_ages(rng, setup.M, limit, other == desk, kind)
+        for row, (lag, left) in zip((seat, mail), ages):
+            row[2 * other:2 * other + 2] = (own - lag) % setup.P, limit - 1 - left
     return seat, mail
 
 
 def told_book(rng, desk, place, kinds):
     """A sound book with such mail for a desk that has a clock left."""
-    setup = any_setup(rng)._replace(D=len(kinds))
+    setup = setup_of_desks(rng, len(kinds))
     made = bytearray(sound_book_of(rng, setup))
     seat, mail = two_rows(rng, made, desk, kinds)
     sender = rng.choice([other for other in range(setup.D) if other != desk])
-    made[book.seat_at(desk):book.seat_at(desk + 1)] = book.SEAT_MARK + b"\1\0" + seat
+    made[book.seat_at(desk):book.seat_at(desk + 1)] = (
+        book.SEAT_MARK + bytes((1, setup.limits[desk])) + seat)
     made[book.place_at(place):book.place_at(place + 1)] = (
         book.MAIL_MARK + bytes((sender + 1, desk + 1)) + mail)
     return bytes(made)
@@ -358,14 +395,14 @@ def kinds_known(rng, desks, first=None, two=()):
     return known
 
 
-def age_beside(rng, setup, own, kind):
+def age_beside(rng, setup, limit, own, kind):
     """An age of a kind within reach from the own one; None where none is soon found."""
     lag, left = own
-    back = setup.m if left == setup.L - 1 else setup.m - 1
+    back = setup.m if left == limit - 1 else setup.m - 1
     low, high = max(0, lag - setup.n + 1), min(setup.A, lag + back)
     for _ in range(20):
         age = (rng.choice((low, lag, high, rng.randint(low, high))),
-               rng.choice((left, max(0, left - 1), some(rng, setup.L - 1))))
+               rng.choice((left, max(0, left - 1), some(rng, limit - 1))))
         if kind_of(own, age) == kind:
             return age
     return own if kind == EQUAL else None
@@ -373,9 +410,10 @@ def age_beside(rng, setup, own, kind):
 
 def ages_known(rng, setup, kinds, owner):
     """The ages of all pairs for one desk, of these kinds but for the owner's own."""
+    limit = setup.limits[owner]
     while True:
-        own = some(rng, setup.A), some(rng, setup.L - 1)
-        ages = [own if desk == owner else age_beside(rng, setup, own, kind)
+        own = some(rng, setup.A), some(rng, limit - 1)
+        ages = [own if desk == owner else age_beside(rng, setup, limit, own, kind)
                 for desk, kind in enumerate(kinds)]
         if None not in ages:
             return ages
@@ -383,7 +421,7 @@ def ages_known(rng, setup, kinds, owner):
 
 def pictured_book(rng, known):
     """A sound book and a slot for each desk, with stamps that tell so much of each other, all within reach."""
-    setup = any_setup(rng)._replace(D=len(known))
+    setup = setup_of_desks(rng, len(known))
     made, slots = bytearray(sound_book_of(rng, setup)), rng.sample(range(32), setup.D)
     for desk, slot in enumerate(slots):
         made[book.slot_at(slot):book.slot_at(slot + 1)] = (
@@ -392,7 +430,7 @@ def pictured_book(rng, known):
         own = made[book.own_entry(owner)]
         for slot, (lag, left) in zip(slots, ages_known(rng, setup, kinds, owner)):
             at = book.slot_at(slot) + 4 + 2 * owner
-            made[at:at + 2] = (own - lag) % setup.P, setup.L - 1 - left
+            made[at:at + 2] = (own - lag) % setup.P, setup.limits[owner] - 1 - left
     return bytes(made), slots
 
 
@@ -473,12 +511,15 @@ def damaged_byte(rng, content, offset):
     byte = content[offset]
     others = ((byte + 1) % 256, (byte - 1) % 256, byte ^ 1 << rng.randrange(8),
               0, 255, rng.randrange(256))
-    other = rng.choice([another for another in others if another != byte])
-    return content[:offset] + bytes((other,)) + content[offset + 1:]
+    return with_byte(content, offset, rng.choice([another for another in others if another != byte]))
 
 
 def moved_round(content, offset, P):
-    return content[:offset] + bytes((min(255, content[offset] + P),)) + content[offset + 1:]
+    return with_byte(content, offset, min(255, content[offset] + P))
+
+
+def with_byte(content, offset, byte):
+    return content[:offset] + bytes((byte,)) + content[offset + 1:]
 
 
 # Numbers and buffers
@@ -531,9 +572,12 @@ def buffers_of(rng, *lengths):
 
 
 def call_on(rng, name, given, numbers):
-    """A call on a lent book; the numbers of a picture are lent, too."""
-    taken = [listed(rng, numbers)] if name == "picture" else numbers
-    return name, [given, *taken, *value_buffers(rng, name)]
+    """A call on a lent book; limits and slots are lent, too."""
+    if name == "start":
+        numbers = setup_lent(rng, *numbers)
+    if name == "picture":
+        numbers = [listed(rng, numbers)]
+    return name, [given, *numbers, *value_buffers(rng, name)]
 
 
 def fitting(rng, name, given):
@@ -541,12 +585,17 @@ def fitting(rng, name, given):
     return call_on(rng, name, given, some_numbers(rng, name, given.content()))
 
 
+def on_book(rng, content):
+    """A call that asks whether the book is sound."""
+    return fitting(rng, sound_call(rng), Lent(rng, content))
+
+
 def some_call(rng):
     return rng.choice(tuple(BOOK_CALLS))
 
 
 def sound_call(rng):
-    """A call that asks whether the book is sound: any but start."""
+    """Any but start."""
     return rng.choice(tuple(name for name in BOOK_CALLS if name != "start"))
 
 
@@ -558,6 +607,15 @@ def trials(rng):
         yield from odd_number_trials(rng)
         yield from odd_setup_trials(rng)
         yield from short_ring_trials(rng)
+        yield from limit_list_trials(rng)
+        yield from odd_limit_trials(rng)
+        yield from limit_byte_trials(rng)
+        yield from header_limit_trials(rng)
+        yield from lowered_trials(rng)
+        yield from clock_trials(rng)
+        yield from full_trials(rng)
+        yield from label_limit_trials(rng)
+        yield from mail_desk_trials(rng)
         yield from length_trials(rng)
         yield from shelf_trials(rng)
         yield from told_trials(rng)
@@ -584,27 +642,159 @@ def odd_number_trials(rng):
 
 
 def odd_setup_trials(rng):
-    for at in range(7):
-        for odd in odd_numbers(8):
-            setup = list(any_setup(rng))
-            setup[at] = odd
-            yield "start", [Lent(rng, sound_book(rng)), *setup]
-            name = rng.choice(LABEL_CALLS)
-            yield name, [*setup, *label_pair(rng), *value_buffers(rng, name)]
+    for part, odd in itertools.product(book.RANGES, odd_numbers(8)):
+        setup = any_setup(rng)
+        yield from setup_trials(rng, setup._replace(**{part: odd}), two_labels(rng, setup))
+
+
+def setup_trials(rng, setup, labels):
+    """To start with, and of records."""
+    yield call_on(rng, "start", Lent(rng, sound_book(rng)), setup)
+    yield label_call(rng, rng.choice(LABEL_CALLS), setup, labels)
 
 
 def short_ring_trials(rng):
     """P of just m+n, and one less: to start, of records and in the header of a fresh book."""
     for P in (3, 4, 5, 128, 254):
         m = rng.randint(max(1, P - 127), min(127, P - 1))
-        setup = book.Setup(rng.randint(2, 8), P, rng.randint(2, 255), 1, 1, m, P - m)
-        given = book.start(bytes(book.BOOK_BYTES), *setup)[2]
+        setup = any_setup(rng)._replace(P=P, M=1, A=1, m=m, n=P - m)
+        given = fresh_book(setup)
         for ring in (P, P - 1):
-            yield "start", [Lent(rng, given), *setup._replace(P=ring)]
-            yield fitting(rng, sound_call(rng), Lent(rng, given[:3] + bytes((ring,)) + given[4:]))
+            yield call_on(rng, "start", Lent(rng, given), setup._replace(P=ring))
+            yield on_book(rng, with_byte(given, 3, ring))
             for name in LABEL_CALLS:
-                labels = [Lent(rng, label) for label in two_labels(rng, setup)]
-                yield name, [*setup._replace(P=ring), *labels, *value_buffers(rng, name)]
+                yield label_call(rng, name, setup._replace(P=ring), two_labels(rng, setup))
+
+
+def limit_list_trials(rng):
+    """Lists of limits of every length, for the D that they are meant for and for such as are none."""
+    for D in range(2, 9):
+        # A count that is D in 8 bits, and in 16.
+        for length in (*range(11), 256 + D, *((2**16 + D,) if D == 8 else ())):
+            yield from listed_trials(rng, D, D, length)
+    for D, meant in ((0, 2), (1, 2), (9, 8), (10, 8), (256 + 2, 2), (2**32 + 8, 8), (2**64 - 1, 8)):
+        for length in (0, 1, 2, 8, 9, 10):
+            yield from listed_trials(rng, D, meant, length)
+
+
+def listed_trials(rng, D, meant, length):
+    """Records, and as much of the list as there is, are those of a good setup."""
+    setup = setup_of_desks(rng, meant)
+    limits = list(itertools.islice(itertools.cycle(setup.limits), length))
+    yield from setup_trials(rng, setup._replace(D=D, limits=limits), two_labels(rng, setup))
+
+
+def odd_limit_trials(rng):
+    """Each desk's limit below, at and above its range, and wider than a byte."""
+    for D in (2, 5, 8):
+        for desk in range(D):
+            setup = setup_of_desks(rng, D)
+            for limit in (0, 1, 2, 255, 256, 257, 2**64 - 1, *(more + setup.limits[desk] for more in WIDER)):
+                odd = setup._replace(limits=seeds.placed(setup.limits, desk, limit))
+                yield from setup_trials(rng, odd, two_labels(rng, setup))
+
+
+def limit_byte_trials(rng):
+    """The limit of each seat made another, below D and above, of desks that have started and that have not."""
+    for D, desk in itertools.product((2, 5, 8), range(8)):
+        setup = setup_of_desks(rng, D)
+        for content in (fresh_book(setup), sound_book_of(rng, setup, [True] * D),
+                        sound_book_of(rng, setup, [other != desk for other in range(D)])):
+            for limit in (0, 1, 2, 255):
+                yield on_book(rng, with_byte(content, book.limit_at(desk), limit))
+
+
+def header_limit_trials(rng):
+    """A limit in the header, beside those in the seats and instead of them; and none at all."""
+    for D in range(2, 9):
+        L = rng.choice((2, 4, 255))
+        content = sound_book_of(rng, setup_of_desks(rng, D)._replace(limits=[L] * D))
+        bare = content
+        for desk in range(D):
+            bare = with_byte(bare, book.limit_at(desk), 0)
+        for given in (with_byte(content, 4, L), with_byte(content, 4, 1), with_byte(bare, 4, L), bare):
+            yield on_book(rng, given)
+
+
+def lowered_trials(rng):
+    """A limit below, at and above the largest clock that stands in its column."""
+    for D in (2, 5, 8):
+        for desk in range(D):
+            content = sound_book_of(rng, setup_of_desks(rng, D))
+            clocks = content[book.SEAT_AT + 5 + 2 * desk::book.RECORD_BYTES]
+            for more in (0, 1, 2):
+                yield on_book(rng, with_byte(content, book.limit_at(desk), max(0, max(clocks) - 1 + more)))
+
+
+def clock_trials(rng):
+    """Each desk's last clock, and the two above it, in each kind of row; the other desks have other limits."""
+    for D, kind, way in itertools.product((2, 3, 8), ("seat", "mail", "slot"), (-1, 1)):
+        for desk in range(D):
+            setup = setup_beside(rng, D, desk, way)
+            content, record = with_record(rng, sound_book_of(rng, setup, [True] * D), kind)
+            for more in (-1, 0, 1):
+                clock = setup.limits[desk] + more
+                yield on_book(rng, with_byte(content, record + 5 + 2 * desk, clock))
+
+
+def with_record(rng, content, kind):
+    """The book, still sound, with such a record in use, and where it is."""
+    setup, own = book.setup_of(content), book.own_phases(content)
+    if kind == "seat":
+        return content, book.seat_at(rng.randrange(setup.D))
+    if kind == "mail":
+        at, made = book.place_at(rng.randrange(32)), book.MAIL_MARK + random_mail(rng, setup, own)
+    else:
+        at, made = book.slot_at(rng.randrange(32)), book.SHELF_MARK + random_slot(rng, setup, own)
+    return content[:at] + made + content[at + 20:], at
+
+
+def full_trials(rng):
+    """Each event that counts, at each desk's last clock and at the one before; others have other limits."""
+    for D, name, way in itertools.product((2, 3, 8), ("local", "send", "receive"), (-1, 1)):
+        for desk, left in itertools.product(range(D), (0, 1)):
+            setup = setup_beside(rng, D, desk, way)
+            other = rng.choice([other for other in range(D) if other != desk])
+            content, place = with_mail(rng, sound_book_of(rng, setup, [True] * D), other, desk)
+            content = with_byte(content, book.own_entry(desk) + 1, setup.limits[desk] - 1 - left)
+            numbers = {"local": [desk], "send": [desk, other], "receive": [desk, place]}[name]
+            yield call_on(rng, name, Lent(rng, content), numbers + some_wish(rng, name))
+
+
+def with_mail(rng, content, sender, addressee):
+    """The book with such mail, and its place."""
+    setup, own, place = book.setup_of(content), book.own_phases(content), rng.randrange(32)
+    mail = bytes((sender + 1, addressee + 1)) + random_row(rng, setup, own, 2 * setup.M)
+    at = book.place_at(place)
+    return content[:at] + book.MAIL_MARK + mail + content[at + 20:], place
+
+
+def label_limit_trials(rng):
+    """Each desk's last clock, and the two above it, in a record; and the last one under limits exchanged."""
+    for D, way, name in itertools.product((2, 3, 8), (-1, 1), LABEL_CALLS):
+        for desk in range(D):
+            setup, at = setup_beside(rng, D, desk, way), rng.randrange(2)
+            labels = two_labels(rng, setup)
+            for more in (1, 0, -1):
+                clock = setup.limits[desk] + more
+                labels = seeds.placed(labels, at, with_byte(labels[at], 5 + 2 * desk, clock))
+                yield label_call(rng, name, setup, labels)
+            yield label_call(rng, name, exchanged(rng, setup, desk), labels)
+
+
+def exchanged(rng, setup, desk):
+    """The setup with the limit of a desk at another, and the other's at it."""
+    other = rng.choice([other for other in range(setup.D) if other != desk])
+    limits = seeds.placed(setup.limits, desk, setup.limits[other])
+    return setup._replace(limits=seeds.placed(limits, other, setup.limits[desk]))
+
+
+def mail_desk_trials(rng):
+    """Mail from and to each of the outermost desks and those beyond them, to oneself among it."""
+    for D in (2, 5, 8):
+        content = sound_book_of(rng, setup_of_desks(rng, D))
+        for desks in itertools.product((-1, 0, D - 1, D, 254), repeat=2):
+            yield on_book(rng, with_mail(rng, content, *desks)[0])
 
 
 def length_trials(rng):
@@ -777,8 +967,9 @@ def labels_apart(rng, setup, first, second):
     return bytes(e), bytes(f)
 
 
-def label_pair(rng):
-    return [Lent(rng, label) for label in two_labels(rng, any_setup(rng))]
+def label_call(rng, name, setup, labels):
+    lent = [Lent(rng, label) for label in labels]
+    return name, [*setup_lent(rng, *setup), *lent, *value_buffers(rng, name)]
 
 
 def label_trials(rng):
@@ -798,8 +989,7 @@ def label_trial(rng, name, spoil):
     labels = list(two_labels(rng, setup))
     at = rng.randrange(2)
     labels[at] = spoil(labels[at], setup.P)
-    lent = [Lent(rng, label) for label in labels]
-    return name, [*setup, *lent, *value_buffers(rng, name)]
+    return label_call(rng, name, setup, labels)
 
 
 # The comparison
@@ -827,8 +1017,9 @@ def differences(asked, number, memories):
     if number != asked.number:
         wrong.append(f"second answers {asked.number}, library {number}")
     for at, (wanted, given) in enumerate(zip(asked.memories, memories)):
-        wrong += [f"buffer {at}, byte {offset - GUARD}: second {one}, library {other}"
-                  for offset, (one, other) in enumerate(zip(wanted, given)) if one != other][:8]
+        if wanted != given:
+            wrong += [f"buffer {at}, byte {offset - GUARD}: second {one}, library {other}"
+                      for offset, (one, other) in enumerate(zip(wanted, given)) if one != other][:8]
     return wrong
 
 

@@ -6,6 +6,7 @@ The writer follows the run it writes (line.py), so that it knows which calls
 will be accepted, which rooms are full and what stands in the way of a reset.
 """
 
+import itertools
 import os
 import random
 import sys
@@ -13,18 +14,26 @@ import sys
 sys.path.insert(0, os.path.dirname(os.path.dirname(os.path.abspath(__file__))))
 
 from second import line
-from second.listing import EVENTS, LIST_VERBS, VERBS, parse
+from second.listing import EVENTS, VERBS, parse
 
 # Each at some edge of the ranges or of the four inequalities.
 EDGE_SETUPS = (
-    (2, 3, 2, 1, 1, 1, 1), (2, 3, 3, 1, 2, 1, 2), (3, 5, 4, 2, 4, 2, 2),
-    (8, 3, 255, 1, 1, 1, 2), (8, 3, 20, 1, 2, 2, 1), (4, 3, 12, 1, 2, 1, 2),
-    (2, 5, 2, 2, 2, 3, 2), (2, 7, 2, 3, 6, 3, 4), (3, 4, 9, 1, 3, 2, 2),
-    (2, 255, 255, 127, 254, 127, 127), (8, 255, 255, 127, 254, 127, 127),
-    (2, 255, 2, 127, 127, 1, 127), (3, 255, 5, 127, 127, 127, 1),
-    (3, 254, 255, 126, 253, 127, 127), (5, 9, 30, 4, 4, 5, 4),
-    (6, 3, 30, 1, 1, 1, 1), (7, 6, 40, 2, 5, 3, 3),
+    (2, 3, (2, 2), 1, 1, 1, 1), (2, 3, (3, 3), 1, 2, 1, 2), (3, 5, (4, 4, 4), 2, 4, 2, 2),
+    (2, 5, (4, 2), 2, 4, 2, 2), (2, 5, (2, 4), 2, 4, 2, 2), (3, 5, (2, 4, 3), 2, 4, 2, 2),
+    (8, 3, (255,) * 8, 1, 1, 1, 2), (8, 3, (20, 21, 22, 23, 24, 25, 26, 27), 1, 2, 2, 1),
+    (4, 3, (12, 200, 10, 255), 1, 2, 1, 2), (2, 5, (2, 255), 2, 2, 3, 2), (2, 7, (2, 3), 3, 6, 3, 4),
+    (3, 4, (9, 8, 7), 1, 3, 2, 2), (2, 255, (255, 255), 127, 254, 127, 127),
+    (8, 255, (255, 2, 254, 3, 253, 4, 252, 5), 127, 254, 127, 127),
+    (2, 255, (2, 2), 127, 127, 1, 127), (3, 255, (5, 2, 255), 127, 127, 127, 1),
+    (3, 254, (255, 255, 255), 126, 253, 127, 127), (5, 9, (30, 3, 30, 4, 30), 4, 4, 5, 4),
+    (6, 3, (30,) * 6, 1, 1, 1, 1), (7, 6, (40, 10, 200, 10, 40, 11, 12), 2, 5, 3, 3),
 )
+
+EDGE_LIMITS = (2, 3, 4, 10, 11, 200, 201, 254, 255)
+
+# These are no limit, and no D; some would be if they were cut to a byte.
+ODD_LIMITS = (0, 1, 256, 257, 258, 260, 511, 512, 999)
+ODD_DESKS = (0, 1, 9, 10, 99, 255, 256, 257, 258, 264, 512, 999)
 
 ODD_NUMBERS = (0, 1, 2, 3, 7, 8, 9, 30, 31, 32, 33, 99, 127, 128, 200, 254,
                255, 256, 257, 511, 512, 998, 999)
@@ -46,11 +55,25 @@ def text_of(verb, *numbers):
     return " ".join([verb, *(f"{number:03}" for number in numbers)]).encode()
 
 
+def start_text(D, P, limits, *lags):
+    return text_of("start", D, P, *limits, *lags)
+
+
 def some_reach(rng, P):
     """m and n, often small or with P of just m+n."""
     m = min(P - 1, rng.choice((1, 2, 3, rng.randint(1, min(127, P - 1)))))
     most = min(127, P - m)
     return m, min(most, rng.choice((1, 2, 3, most, rng.randint(1, most))))
+
+
+def some_limits(rng, D):
+    """A limit for each desk: all alike, all but one, all near, all small, or each far from the next."""
+    L = rng.choice((2, 4, 6, 8, 10, 15, 20, 40, rng.randint(2, 255)))
+    alike, at = [L] * D, rng.randrange(D)
+    return rng.choice((alike, placed(alike, at, rng.choice(EDGE_LIMITS)),
+                       [min(255, L + rng.randint(0, 3)) for _ in alike],
+                       [rng.randint(2, 4) for _ in alike], [rng.randint(5, 20) for _ in alike],
+                       rng.choices(EDGE_LIMITS, k=D), [rng.randint(2, 255) for _ in alike]))
 
 
 def good_setup(rng):
@@ -59,27 +82,65 @@ def good_setup(rng):
     M = rng.choice((1, 1, 1, 2, 2, 3, rng.randint(1, 30)))
     A = M + rng.choice((0, 0, 1, 2, rng.randint(0, 60)))
     P = max(2 * M + 1, A + 1) + rng.choice((0, 0, 0, 1, rng.randint(0, 20)))
-    L = rng.choice((2, 4, 6, 8, 10, 15, 20, 40, rng.randint(2, 255)))
-    return rng.choice((2, 2, 3, 3, 4, 5, 6, 7, 8)), P, L, M, A, *some_reach(rng, P)
+    D = rng.choice((2, 2, 3, 3, 4, 5, 6, 7, 8))
+    return D, P, some_limits(rng, D), M, A, *some_reach(rng, P)
 
 
-def odd_setup(rng):
-    """A good setup with one number moved, often just over an edge."""
-    D, P, L, M, A, m, n = setup = list(good_setup(rng))
-    if rng.random() < 0.6:
-        return rng.choice(((D, P, L, M, M - 1, m, n), (D, 2 * M, L, M, M, 1, 1),
-                           (D, A, L, M, A, 1, 1), (D, P, L, M, P, m, n),
-                           (D, P, L, M, A, m, P - m), (D, P, L, M, A, m, P + 1 - m),
-                           (D, P, L, M, A, P - n, n), (D, P, L, M, A, P + 1 - n, n)))
-    moved = rng.randrange(7)
-    setup[moved] = rng.choice((0, 1, 255, 256, 999, setup[moved] - 1,
-                               setup[moved] + 1, rng.randint(0, 300)))
-    return setup
+def placed(numbers, at, number):
+    """The list with another number at a place."""
+    return [*numbers[:at], number, *numbers[at + 1:]]
 
 
-def placed(slots, at, slot):
-    """The list with another slot at a place."""
-    return slots[:at] + [slot] + slots[at + 1:]
+# Start lines that are mostly refused
+
+def over_an_edge(rng, D, P, limits, M, A, m, n):
+    return start_text(D, *rng.choice((
+        (P, limits, M, M - 1, m, n), (2 * M, limits, M, M, 1, 1),
+        (A, limits, M, A, 1, 1), (P, limits, M, P, m, n),
+        (P, limits, M, A, m, P - m), (P, limits, M, A, m, P + 1 - m),
+        (P, limits, M, A, P - n, n), (P, limits, M, A, P + 1 - n, n))))
+
+
+def one_moved(rng, D, P, limits, *lags):
+    """Any number, the D and the limits among them."""
+    numbers = [D, P, *limits, *lags]
+    at = rng.randrange(len(numbers))
+    moved = rng.choice((0, 1, 255, 256, 999, numbers[at] - 1, numbers[at] + 1, rng.randint(0, 300)))
+    return text_of("start", *placed(numbers, at, moved))
+
+
+def odd_limit(rng, D, P, limits, *lags):
+    at = rng.randrange(D)
+    odd = rng.choice((0, 1, 256, 999, rng.choice(ODD_LIMITS), 256 + limits[at], 512 + limits[at]))
+    return start_text(D, P, placed(limits, at, odd), *lags)
+
+
+def odd_desks(rng, D, P, limits, *lags):
+    """However many limits there are, as long as it is a line."""
+    count = rng.choice((0, 1, D, 8, rng.randint(0, 9)))
+    return start_text(rng.choice(ODD_DESKS), P, some_limits(rng, 9)[:count], *lags)
+
+
+def other_limits(rng, D, P, limits, *lags):
+    """None, one, one fewer, one more, or any number of them, sometimes with one that is no limit."""
+    count = rng.choice((0, 1, D - 1, D + 1, 8, 9, rng.randint(0, 9)))
+    limits = [*limits, *some_limits(rng, 9)][:count]
+    if limits and rng.random() < 0.3:
+        limits[rng.randrange(count)] = rng.choice(ODD_LIMITS)
+    return start_text(D, P, limits, *lags)
+
+
+def few_numbers(rng, D, P, limits, *lags):
+    D = rng.choice((D, rng.choice(ODD_DESKS)))
+    return text_of("start", *[D, P, *limits, *lags][:rng.randint(0, 6)])
+
+
+ODD_STARTS = (over_an_edge, over_an_edge, one_moved, odd_limit, odd_limit, odd_desks, odd_desks,
+              other_limits, other_limits, few_numbers)
+
+
+def odd_start(rng):
+    return rng.choice(ODD_STARTS)(rng, *good_setup(rng))
 
 
 # Damaged lines
@@ -168,16 +229,24 @@ class Writer:
     def say(self, verb, *numbers):
         """Write a line; hand back the number and values the run answers."""
         self.lines.append(text_of(verb, *numbers))
-        if verb == "start":
-            return self.start(numbers), ()
         return getattr(self.run, verb)(*numbers) if self.run else (1, ())
 
-    def start(self, numbers):
-        if not line.permitted(*numbers):
+    def start(self, *setup):
+        """Write a start line; hand back its number. Where it is permitted, a run begins."""
+        self.lines.append(start_text(*setup))
+        if not line.permitted(*setup):
             return 2
-        self.run = line.Run(*numbers)
+        self.run = line.Run(*setup)
         self.runs.append(self.run)
         return 0
+
+    def write(self, text):
+        """Any line, which the run follows; hand back its number."""
+        verb, numbers = parse(text) or (None, ())
+        if verb is None:
+            self.lines.append(text)
+            return 17
+        return self.start(*numbers) if verb == "start" else self.say(verb, *numbers)[0]
 
     def data(self):
         ended = b"\n" if self.rng.random() < 0.7 else b""
@@ -252,10 +321,12 @@ class Writer:
             if not self.kept_slots(desk) and self.rng.random() < 0.8:
                 self.keep_more(desk)
         slots = self.answerable() if self.rng.random() < 0.85 else self.one_of_each()
-        self.say("picture", *(self.misfit(slots) if self.rng.random() < 0.2 else slots))
+        self.say("picture", *(self.misfit(slots) if self.rng.random() < 0.3 else slots))
 
     def stocktaking(self):
         """All hear of all, so that all are within reach; then much is kept, and pictures are taken of it."""
+        if min(self.run.limits) < 8 and self.rng.random() < 0.7:
+            self.roomy_start()
         for desk in list(range(self.run.D)) * 2:
             self.tell(desk, (desk + 1) % self.run.D)
         for desk in self.rng.sample(range(self.run.D), self.run.D):
@@ -352,9 +423,9 @@ class Writer:
     def make_room(self):
         self.say("drop", self.rng.randrange(32))
 
-    def clear(self, verb, room, desk, limit):
+    def clear(self, verb, room, desk, most):
         for place, event in list(enumerate(room)):
-            if event and self.run.behind(desk, event.pairs) >= limit:
+            if event and self.run.behind(desk, event.pairs) >= most:
                 self.say(verb, place)
 
     def sprint(self):
@@ -392,8 +463,9 @@ class Writer:
 
     def come_round(self):
         """On a ring of three a desk turns to 0 again, and the others hear that it is the newest."""
-        self.say("start", self.rng.choice((3, 5, 8, 8)), 3, 60, 1, self.rng.choice((1, 2)),
-                 *self.rng.choice(((1, 2), some_reach(self.rng, 3))))
+        D = self.rng.choice((3, 5, 8, 8))
+        self.start(D, 3, self.rng.choices((30, 40, 60, 200, 255), k=D), 1, self.rng.choice((1, 2)),
+                   *self.rng.choice(((1, 2), some_reach(self.rng, 3))))
         desks = self.rng.sample(range(self.run.D), self.run.D)
         self.turn_up_to(desks[0], 2)
         sent = self.say("send", desks[0], desks[-1], 1)
@@ -434,8 +506,39 @@ class Writer:
         if self.rng.random() < 0.2:
             self.picture()
 
+    def last_clocks(self):
+        """Desks use up their phases, so that their last clocks stand in rows of desks with other limits."""
+        for desk in self.rng.sample(range(self.run.D), self.run.D):
+            if self.run.left(desk) < 30:
+                self.use_up(desk)
+        self.ask()
+
+    def use_up(self, desk):
+        """The last clock goes to another as kept news; then the desk can do nothing but reset."""
+        to = self.rng.choice([other for other in range(self.run.D) if other != desk])
+        while self.run.left(desk) > 1:
+            self.say("local", desk, 0)
+        self.tell(desk, to, 1)
+        self.say("local", desk, self.wish())
+        self.say("send", desk, to, self.wish())
+        self.take_sent(desk, self.say("send", to, desk, self.wish()))
+
+    def packing_bench(self):
+        """One desk makes two hundred events or so in its phase, the others few."""
+        D = self.rng.choice((2, 3))
+        bench, *offices = self.rng.sample(range(D), D)
+        limits = placed([self.rng.randint(2, 12) for _ in range(D)], bench,
+                        self.rng.choice((200, 201, 254, 255)))
+        self.start(D, 5, limits, 2, 4, *some_reach(self.rng, 5))
+        while not self.run.full(bench):
+            if self.rng.random() < 0.9:
+                self.say("local", bench, 0)
+            else:
+                self.tell(bench, self.rng.choice(offices), self.wish())
+        self.use_up(bench)
+
     def rounds(self):
-        for _ in range(self.rng.randint(3, 12)):
+        for _ in range(self.rng.randint(2, 8)):
             if len(self.lines) < 240:
                 self.gossip()
 
@@ -448,8 +551,8 @@ class Writer:
                 return self.fill_phase()
 
     def fill_phase(self):
-        """A phase full beside full mail or a full shelf, where L lets it come to that."""
-        desk = self.rng.randrange(self.run.D)
+        """A phase full beside full mail or a full shelf, where the desk's limit lets it come to that."""
+        desk = min(self.rng.sample(range(self.run.D), 2), key=self.run.left)
         while not self.run.full(desk) and self.rng.random() < 0.95:
             self.say("local", desk, 0)
         self.say("send", desk, (desk + 1) % self.run.D, self.wish())
@@ -457,7 +560,7 @@ class Writer:
 
     def fill_shelf(self):
         """Kept events until none finds a slot, then all kinds of them about the last slot."""
-        if self.run.D * self.run.L < 40:
+        if sum(self.run.limits) < 40:
             self.roomy_start()
         for _ in range(80):
             if None in self.run.shelf:
@@ -477,9 +580,9 @@ class Writer:
         self.fill_phase()
 
     def roomy_start(self):
-        """An event is kept but once, so a shelf is filled only by many."""
-        D, P, L, *lags = good_setup(self.rng)
-        self.say("start", D, P, max(L, 24), *lags)
+        """An event is kept but once, so a shelf is filled only by many, and where resets are few."""
+        D, P, limits, *lags = good_setup(self.rng)
+        self.start(D, P, [max(limit, 24) for limit in limits], *lags)
 
     def more_kept(self):
         verb = self.rng.choice(("local", "local", "local", "send", "receive", "reset"))
@@ -523,7 +626,7 @@ class Writer:
     def odd_numbers(self):
         odd = lambda: self.rng.choice(ODD_NUMBERS)
         for _ in range(self.rng.randint(2, 8)):
-            verb = self.rng.choice([*VERBS, *LIST_VERBS][1:])
+            verb = self.rng.choice([*VERBS, b"picture"])
             count = VERBS.get(verb, self.rng.choice(ODD_COUNTS))
             verb = verb.decode()
             wish = [self.wish()] if verb in EVENTS else []
@@ -534,41 +637,73 @@ class Writer:
 
     def bad_lines(self):
         for _ in range(self.rng.randint(3, 12)):
-            text = self.rng.choice(self.lines)
-            self.write_damaged(damaged(self.rng, text))
-
-    def write_damaged(self, text):
-        """Damage may leave a good line: then the run follows it."""
-        parsed = parse(text)
-        if parsed:
-            self.say(parsed[0], *parsed[1])
-        else:
-            self.lines.append(text)
+            self.write(damaged(self.rng, self.rng.choice(self.lines)))
 
     def bad_start(self):
+        for _ in range(self.rng.randint(4, 12)):
+            self.write(odd_start(self.rng))
+
+    def bad_start_text(self):
+        """Start lines of other shapes and lengths."""
         for _ in range(self.rng.randint(1, 5)):
-            self.say("start", *odd_setup(self.rng))
+            self.write(damaged(self.rng, start_text(*good_setup(self.rng))))
 
     def new_start(self):
-        self.say("start", *good_setup(self.rng))
+        self.start(*good_setup(self.rng))
 
 
 SCENES = ((Writer.wander, 8), (Writer.sprint, 4), (Writer.rounds, 5), (Writer.hearsay, 3),
           (Writer.come_round, 4), (Writer.old_mail, 4), (Writer.stocktaking, 6),
           (Writer.fill_mail, 2), (Writer.fill_shelf, 2), (Writer.fill_both, 1), (Writer.ask, 3),
-          (Writer.resets, 5), (Writer.odd_numbers, 2), (Writer.bad_lines, 9),
-          (Writer.bad_start, 3), (Writer.new_start, 1))
+          (Writer.resets, 5), (Writer.last_clocks, 6), (Writer.packing_bench, 1),
+          (Writer.odd_numbers, 2), (Writer.bad_lines, 9), (Writer.bad_start, 5),
+          (Writer.bad_start_text, 2), (Writer.new_start, 1))
+
+
+# Start lines, and what the book is after each
+
+FIXED_LIMITS = (4, 2, 3, 255, 2, 200, 10, 2, 5, 5)
+
+
+def counted_starts():
+    """Each D with none to ten limits, and with fewer numbers than any setup has."""
+    for D in sorted({*range(11), *ODD_DESKS}):
+        for count in range(11):
+            yield start_text(D, 5, FIXED_LIMITS[:count], 2, 4, 2, 2)
+            yield b"local 001 000"
+        for count in range(6):
+            yield text_of("start", *(D, 5, 2, 4, 2, 2)[:count])
+
+
+def limited_starts():
+    """Each limit below, at and above its range, for each desk of each D."""
+    for D in range(2, 9):
+        for desk, limit in itertools.product(range(D), (0, 1, 2, 255, 256, 258, 999)):
+            yield start_text(D, 5, placed(FIXED_LIMITS[:D], desk, limit), 2, 4, 2, 2)
+            yield text_of("local", desk, 0)
+            yield text_of("local", desk, 0)
+
+
+def long_starts():
+    """The longest line has 61 bytes; whatever is behind it is too much, within 64 bytes and beyond."""
+    for D in (8, 9):
+        text = start_text(D, 5, FIXED_LIMITS[:8], 2, 4, 2, 2)
+        yield from (text + b" 002 002 002"[:more] for more in range(13))
+        yield from (text.ljust(length) for length in (62, 63, 64, 65, 66))
+        yield from (text[:length] for length in range(56, 61))
+
 
 # Input that no run is needed for: ends, lengths and bytes.
 SHORT_LISTINGS = (
     b"", b"\n", b"\n\n", b"x", b"\0", b"\r\n", b"\n" * 70000,
     b"\n".join(b"picture" + b" 000" * count + tail for count in range(17) for tail in (b"", b" ")),
-    b"start 002 003 003 001 001 001 001", b"start 002 003 003 001 001 001 001\r\n",
-    b"start 256 003 003 001 001 001 001\nlocal 000 000\n",
+    b"start 002 003 003 003 001 001 001 001", b"start 002 003 003 003 001 001 001 001\r\n",
+    b"start 256 003 003 003 001 001 001 001\nlocal 000 000\n",
+    *(b"\n".join(lines()) for lines in (counted_starts, limited_starts, long_starts)),
     *(b"x" * length for length in (63, 64, 65, 66)),
-    *(b"start 003 005 004 002 004 002 002\n" + b" " * length + b"local 000 001\nlocal 000 001"
+    *(b"start 002 005 004 002 002 004 002 002\n" + b" " * length + b"local 000 001\nlocal 000 001"
       for length in (50, 51, 52, 53, 115, 116, 243, 256, 65523, 65536)),
-    *(b"start 003 005 004 002 004 002 002\nlocal 000 001" + b"x" * length + b"\nlocal 000 001"
+    *(b"start 002 005 004 002 002 004 002 002\nlocal 000 001" + b"x" * length + b"\nlocal 000 001"
       for length in (51, 52, 243, 256, 65523, 65536)),
 )
 
@@ -580,9 +715,11 @@ def written(seed):
         writer.odd_numbers()
         writer.bad_start()
     writer.new_start()
+    if rng.random() < 0.4:
+        writer.bad_start()
     scenes, weights = zip(*SCENES)
-    favourite = rng.choice((Writer.rounds, Writer.rounds, Writer.sprint, Writer.resets,
-                            Writer.wander))
+    favourite = rng.choice((Writer.rounds, Writer.sprint, Writer.resets, Writer.wander,
+                            Writer.stocktaking, Writer.last_clocks))
     wanted = rng.randint(100, 250)
     while len(writer.lines) < wanted:
         scene = favourite if rng.random() < 0.3 else rng.choices(scenes, weights)[0]

@@ -9,8 +9,8 @@ is reached by no line either: kept stamps in a book brought along from start
 never cross. Nor is mail that says of its sender just what is held: what a desk
 heard of a send by another way, it heard with a later event of that sender. Nor
 are two desks at odds both ways: each would lead to the other.
-Case 4 and case 10 are about records, so lines say only the stamp of case 4 and,
-of case 10, the same differences on the book.
+Cases 4, 10 and 16 are about records, so lines say only the stamps of cases 4 and
+16 and, of case 10, the same differences on the book.
 """
 
 import collections
@@ -23,7 +23,7 @@ sys.path.insert(0, os.path.dirname(os.path.dirname(os.path.abspath(__file__))))
 from second import book, line, listing, seeds
 
 EXAMPLE = b"""\
-start 002 003 003 001 001 001 001
+start 002 003 003 003 001 001 001 001
 local 000 001
 send 000 001 000
 receive 001 000 001
@@ -42,7 +42,42 @@ EXAMPLE_ANSWERS = b"""\
 011
 """
 
-X = (3, 5, 4, 2, 4, 2, 2)
+# Cases 14 and 15, and the stamp of case 16.
+OWN_LIMITS = b"""\
+start 002 005 004 002 002 004 002 002
+local 000 000
+local 000 000
+local 000 000
+local 000 000
+local 001 000
+local 001 000
+start 002 005 004 002 002 004 002 002
+local 000 000
+local 000 000
+send 000 001 000
+receive 001 000 001
+local 001 000
+local 000 000
+"""
+
+OWN_LIMITS_ANSWERS = b"""\
+000
+000 000 000.001 000.000
+000 000 000.002 000.000
+000 000 000.003 000.000
+008
+000 001 000.000 000.001
+008
+000
+000 000 000.001 000.000
+000 000 000.002 000.000
+000 000 000 000.003 000.000
+000 001 000.003 000.001 001 000
+008
+008
+"""
+
+X = (3, 5, (4, 4, 4), 2, 4, 2, 2)
 
 # With its newline.
 LONGEST_ANSWER = 80
@@ -59,6 +94,11 @@ WRONG_OWNER = book.WRONG_OWNER, ()
 def odds(one, other):
     """What a picture answers where two desks are at odds."""
     return 0, (one, other)
+
+
+def unlike(D, least):
+    """A limit for each desk, no two alike."""
+    return [least + desk for desk in range(D)]
 
 
 RELATIONS = ("before", "after", "same", "concurrent")
@@ -80,6 +120,11 @@ class Writer(seeds.Writer):
 
     def raw(self, *texts):
         self.lines += texts
+
+    def started(self, number, text):
+        """A start line whose number was found by hand."""
+        told = self.write(text)
+        require(told == number, f"{text} with {number}: line {len(self.lines)} answers {told}")
 
     def kept(self, verb, *numbers):
         """The slot that a kept event answers."""
@@ -156,41 +201,40 @@ def numbers_of(verb, number, keep):
 
 
 def no_book_yet(w):
-    for verb in (verb.decode() for verb in listing.VERBS if verb != b"start"):
+    for verb in (verb.decode() for verb in listing.VERBS):
         w.say(verb, *numbers_of(verb, 0, 0))
         w.say(verb, *numbers_of(verb, 999, 1))
     for count in (0, 1, 2, 3, 8, 14):
         w.say("picture", *[0] * count)
         w.say("picture", *[999] * count)
     w.raw(b"", b"local 7", b"local 000", b"local 000 002", b"keep 000", b"picture 7", b"picture ")
-    w.say("start", 3, 4, 4, 2, 4, 2, 2)
+    w.start(3, 4, (4, 4, 4), 2, 4, 2, 2)
     w.say("local", 0, 1)
 
 
 def example(w):
     for text in listing.lines_of(EXAMPLE):
-        verb, numbers = listing.parse(text)
-        w.say(verb, *numbers)
+        w.write(text)
 
 
 # The cases, by their numbers in docs/RULES.md
 
 def case_1_and_2(w):
-    w.say("start", *X)
+    w.start(*X)
     w.say("local", 2, 0)
-    w.say("start", 3, 4, 4, 2, 4, 2, 2)
-    w.say("start", 3, 5, 4, 2, 1, 2, 2)
+    w.start(3, 4, (4, 4, 4), 2, 4, 2, 2)
+    w.start(3, 5, (4, 4, 4), 2, 1, 2, 2)
     w.say("local", 2, 0)
 
 
 def case_3_to_8(w):
-    w.say("start", *X)
+    w.start(*X)
     w.say("local", 0, 0)
     w.say("send", 0, 0, 0)
     w.say("send", 3, 3, 0)
     for _ in range(3):
         w.say("local", 0, 0)
-    w.say("start", *X)
+    w.start(*X)
     for _ in range(3):
         w.say("reset", 0, 0)
 
@@ -210,7 +254,7 @@ def turn_to(w, phase):
 
 def case_9(w):
     """Phase 0 is later than 4 once desk 0 is there, not before."""
-    w.say("start", 3, 5, 40, 2, 4, 2, 2)
+    w.start(3, 5, unlike(3, 40), 2, 4, 2, 2)
     turn_to(w, 4)
     w.say("send", 0, 1, 0)
     w.say("reset", 0, 0)
@@ -219,7 +263,7 @@ def case_9(w):
     w.say("send", 2, 1, 0)
     w.say("receive", 1, 1, 0)
     w.say("receive", 1, 0, 1)
-    w.say("start", *X)
+    w.start(*X)
     w.say("send", 0, 1, 0)
     w.say("reset", 0, 0)
     w.say("send", 0, 1, 0)
@@ -229,7 +273,7 @@ def case_9(w):
 
 def case_10(w):
     """On the book under X, differences of 0, 1, -1 and 2, -2; the last ones from a reset and its local."""
-    w.say("start", *X)
+    w.start(*X)
     w.say("local", 0, 1)
     w.say("local", 1, 1)
     w.say("reset", 0, 0)
@@ -241,7 +285,7 @@ def case_10(w):
 
 
 def case_11_and_12(w):
-    w.say("start", *X)
+    w.start(*X)
     w.say("local", 0, 1)
     w.question(0, 0)
     w.say("send", 0, 1, 0)
@@ -252,7 +296,7 @@ def case_11_and_12(w):
 
 def case_13(w):
     for between in (0, 1):
-        w.say("start", *X)
+        w.start(*X)
         w.say("local", 0, 1)
         for _ in range(between):
             w.say("reset", 0, 0)
@@ -260,30 +304,178 @@ def case_13(w):
         w.all_two_ways((0, 1))
 
 
+def case_14_to_16(w):
+    for text in listing.lines_of(OWN_LIMITS):
+        w.write(text)
+
+
+# Limits of their own
+
+def last_clocks(w):
+    """Each desk's last clock in its own row, in mail and on the shelf, then in the others' rows."""
+    for limits in itertools.permutations((2, 3, 4)):
+        w.start(3, 5, limits, 2, 4, 2, 2)
+        sent = [use_up(w, desk, (desk + 1) % 3) for desk in range(3)]
+        for desk, place in enumerate(sent):
+            to = (desk + 1) % 3
+            w.either("receive", to, place)
+            w.say("reset", to, 1)
+            w.say("receive", to, place, 1)
+        for desk in range(3):
+            w.tell(desk, (desk + 1) % 3, 1)
+        w.pictured(YES, *(slots_of(w, desk)[0] for desk in range(3)))
+        w.two_ways(range(3), (4, 6, 8))
+
+
+def use_up(w, desk, to):
+    """The last clock is a kept send's, whose mail waits; then the desk is refused whatever it would count."""
+    while w.run.left(desk) > 1:
+        w.say("local", desk, 0)
+    place = w.say("send", desk, to, 1)[1][0]
+    w.either("local", desk)
+    w.either("send", desk, to)
+    return place
+
+
+def slots_of(w, desk):
+    return [slot for slot, event in enumerate(w.run.shelf) if event and event.desk == desk]
+
+
+def all_last_clocks(w):
+    """Each of eight last clocks comes to the desk with the smallest limit, or the largest, and from it to all."""
+    for desk in (0, 7):
+        w.start(8, 40, (2, 9, 3, 8, 4, 7, 5, 10), 19, 39, 2, 2)
+        others = [other for other in range(8) if other != desk]
+        for place in [use_up(w, other, desk) for other in others]:
+            if w.run.full(desk):
+                w.say("reset", desk, 0)
+            w.say("receive", desk, place, 1)
+        w.say("reset", desk, 1)
+        for other in others:
+            if w.run.full(desk):
+                w.say("reset", desk, 1)
+            place = w.mailed(desk, other)
+            w.either("receive", other, place)
+            w.say("reset", other, 0)
+            w.say("receive", other, place, 1)
+        w.two_ways(slots_of(w, desk)[:2], range(4))
+
+
+def bench_and_office(w):
+    """Two hundred events in a phase at one desk and ten at the other, in either order."""
+    for limits in ((201, 11), (11, 201)):
+        w.start(2, 5, limits, 2, 4, 2, 2)
+        for desk, to in ((0, 1), (1, 0)):
+            place = use_up(w, desk, to)
+            w.say("reset", to, 0)
+            w.say("receive", to, place, 1)
+        w.all_two_ways(range(4))
+
+
+def clock_of_255_beside_2(w):
+    """The last clock of 255 in the row of a desk that has two clock values, and in its mail."""
+    w.start(3, 5, (255, 2, 3), 2, 4, 2, 2)
+    place = use_up(w, 0, 1)
+    w.say("receive", 1, place, 1)
+    w.say("reset", 1, 1)
+    w.tell(1, 2, 1)
+    w.say("reset", 2, 1)
+    w.tell(2, 1, 1)
+    w.all_two_ways(range(w.run.shelf.index(None)))
+
+
+def limits_stay(w):
+    """Every kind of call, and refused starts, leave the limits; an accepted start does not."""
+    w.start(2, 5, (4, 2), 2, 4, 2, 2)
+    w.say("receive", 1, use_up(w, 0, 1), 1)
+    w.say("reset", 1, 0)
+    w.say("send", 1, 0, 0)
+    w.question(0, 1)
+    w.say("picture", 0, 1)
+    w.say("drop", 0)
+    w.say("discard", 0)
+    w.say("reset", 1, 0)
+    w.say("reset", 0, 0)
+    for limits in ((2, 1), (256, 2), (2,), (2, 2, 2), (2, 4, 2)):
+        w.write(seeds.start_text(2, 5, limits, 2, 4, 2, 2))
+        w.write(seeds.start_text(9, 5, limits, 2, 4, 2, 2))
+    for desk in (1, 0):
+        use_up(w, desk, 1 - desk)
+    w.start(2, 5, (2, 4), 2, 4, 2, 2)
+    for desk in (1, 0):
+        use_up(w, desk, 1 - desk)
+
+
 # Setups on both sides of each edge
 
 def setups(w):
-    for setup in ((2, 3, 2, 1, 1, 1, 1), (8, 255, 255, 127, 254, 127, 127)):
-        for at in range(7):
-            for number in (0, *book.RANGES[at], book.RANGES[at][0] - 1,
-                           book.RANGES[at][1] + 1, 255, 256, 999):
-                w.say("start", *setup[:at], number, *setup[at + 1:])
-    for setup in ((4, 11, 9, 5, 6, 2, 2), (4, 10, 9, 5, 6, 2, 2),
-                  (4, 11, 9, 2, 10, 2, 2), (4, 11, 9, 2, 11, 2, 2),
-                  (4, 11, 9, 2, 2, 2, 2), (4, 11, 9, 3, 2, 2, 2),
-                  (4, 11, 9, 2, 2, 6, 5), (4, 11, 9, 2, 2, 6, 6),
-                  (4, 11, 9, 2, 2, 10, 1), (4, 11, 9, 2, 2, 11, 1),
-                  (4, 11, 9, 2, 2, 1, 10), (4, 11, 9, 2, 2, 1, 11),
-                  (4, 3, 9, 1, 1, 1, 2), (4, 3, 9, 1, 1, 2, 2),
-                  (4, 254, 9, 1, 1, 127, 127), (4, 253, 9, 1, 1, 127, 127)):
-        w.say("start", *setup)
+    for setup in (book.Setup(2, 3, (2, 2), 1, 1, 1, 1),
+                  book.Setup(8, 255, (255,) * 8, 127, 254, 127, 127)):
+        for name, (low, high) in book.RANGES.items():
+            for number in (0, low, high, low - 1, high + 1, 255, 256, 999):
+                w.write(seeds.start_text(*setup._replace(**{name: number})))
+    for P, *lags in ((11, 5, 6, 2, 2), (10, 5, 6, 2, 2), (11, 2, 10, 2, 2), (11, 2, 11, 2, 2),
+                     (11, 2, 2, 2, 2), (11, 3, 2, 2, 2), (11, 2, 2, 6, 5), (11, 2, 2, 6, 6),
+                     (11, 2, 2, 10, 1), (11, 2, 2, 11, 1), (11, 2, 2, 1, 10), (11, 2, 2, 1, 11),
+                     (3, 1, 1, 1, 2), (3, 1, 1, 2, 2), (254, 1, 1, 127, 127), (253, 1, 1, 127, 127)):
+        w.start(4, P, (9, 3, 200, 10), *lags)
         w.say("local", 3, 0)
+
+
+# Start lines by hand: the number, and the numbers that follow the verb.
+START_LINES = (
+    (0, "002 005 004 002 002 004 002 002"), (0, "003 005 004 002 255 002 004 002 002"),
+    (0, "004 005 004 002 255 003 002 004 002 002"), (0, "005 005 004 002 255 003 002 002 004 002 002"),
+    (0, "006 005 004 002 255 003 002 200 002 004 002 002"),
+    (0, "007 005 004 002 255 003 002 200 010 002 004 002 002"),
+    (0, "008 005 004 002 255 003 002 200 010 254 002 004 002 002"),
+    # Fewer than six numbers are no start, whatever D is.
+    (17, ""), (17, "002"), (17, "009"), (17, "002 005"), (17, "002 005 002 004 002"),
+    (17, "000 005 002 004 002"), (17, "009 005 002 004 002"), (17, "999 999 999 999 999"),
+    # D is good, and there are no limits, one fewer, one more or many.
+    (17, "002 005 002 004 002 002"), (17, "008 005 002 004 002 002"),
+    (17, "002 005 004 002 004 002 002"), (17, "002 005 004 002 004 002 004 002 002"),
+    (17, "002 005 004 002 004 002 004 002 004 002 002 004 002 002"),
+    (17, "003 005 004 002 002 004 002 002"), (17, "003 005 004 002 255 002 002 004 002 002"),
+    (17, "008 005 004 002 255 003 002 200 010 002 004 002 002"),
+    (17, "008 005 004 002 255 003 002 200 010 254 002 002 004 002 002"),
+    # Whatever the other numbers are.
+    (17, "002 999 999 999 999 999 999"), (17, "002 000 000 000 000 000"),
+    (17, "002 005 000 002 004 002 002"), (17, "002 004 004 001 004 256 004 002 002"),
+    # D is not, and there are none to eight limits; nine are too long a line.
+    (2, "000 005 002 004 002 002"), (2, "001 005 002 004 002 002"), (2, "009 005 002 004 002 002"),
+    (2, "255 005 002 004 002 002"), (2, "256 005 002 004 002 002"), (2, "999 999 999 999 999 999"),
+    (2, "000 005 004 002 002 004 002 002"), (2, "001 005 004 002 004 002 002"),
+    (2, "001 005 004 002 002 004 002 002"), (2, "010 005 004 002 002 004 002 002"),
+    (2, "258 005 004 002 002 004 002 002"), (2, "999 005 004 002 002 004 002 002"),
+    (2, "009 005 004 002 255 003 002 200 010 254 002 004 002 002"),
+    (17, "009 005 004 002 255 003 002 200 010 254 004 002 004 002 002"),
+    (2, "256 005 000 001 256 999 002 200 010 254 002 004 002 002"),
+    # As many limits as desks, one of them out of its range; and all at an end of it.
+    (2, "002 005 001 002 002 004 002 002"), (2, "002 005 004 001 002 004 002 002"),
+    (2, "002 005 000 002 002 004 002 002"), (2, "002 005 004 000 002 004 002 002"),
+    (2, "002 005 256 002 002 004 002 002"), (2, "002 005 004 258 002 004 002 002"),
+    (2, "002 005 004 999 002 004 002 002"), (0, "002 005 255 255 002 004 002 002"),
+    (0, "002 005 002 002 002 004 002 002"), (2, "008 005 004 002 255 003 002 200 010 001 002 004 002 002"),
+)
+
+
+def start_lines(w):
+    for number, numbers in START_LINES:
+        w.started(number, b" ".join([b"start", *numbers.encode().split()]))
+        w.say("local", 1, 0)
+
+
+def more_start_lines(w):
+    for lines in (seeds.counted_starts, seeds.limited_starts, seeds.long_starts):
+        for text in lines():
+            w.write(text)
 
 
 # Numbers that are not there, and reasons that meet
 
 def odd_numbers(w):
-    w.say("start", *X)
+    w.start(*X)
     w.say("send", 0, 1, 1)
     for odd in (1, 2, 3, 8, 31, 32, 255, 256, 257, 999):
         for verb in ("local", "reset"):
@@ -298,7 +490,7 @@ def odd_numbers(w):
 
 def reasons_that_meet(w):
     """The smallest number is given: mail, shelf and desk 0's phase are full at once."""
-    w.say("start", 3, 3, 33, 1, 2, 1, 1)
+    w.start(3, 3, (33, 255, 33), 1, 2, 1, 1)
     for _ in range(32):
         w.say("send", 0, 2, 1)
     for event in (("send", 0, 3), ("send", 0, 0), ("send", 0, 1), ("send", 1, 0),
@@ -315,7 +507,7 @@ def reasons_that_meet(w):
 
 def lags_that_meet(w):
     """At a kept reset a full shelf comes before what lags: a seat, then the mail, then the shelf."""
-    w.say("start", 3, 3, 60, 1, 2, 1, 1)
+    w.start(3, 3, unlike(3, 60), 1, 2, 1, 1)
     w.say("send", 0, 2, 1)
     for _ in range(31):
         w.say("local", 0, 1)
@@ -341,11 +533,14 @@ def resets_refused(w):
 # Text
 
 def bad_shapes(w):
-    w.say("start", *X)
+    w.start(*X)
     w.say("local", 0, 1)
     for verb, count in listing.VERBS.items():
         good = seeds.text_of(verb.decode(), *[1] * count)
         w.raw(*shapes_of(good))
+    # A D of 1 is a BadSetup in some shapes, and none of them is a start.
+    w.raw(*shapes_of(b"start 002 003 002 002 001 001 001 001"))
+    w.raw(*shapes_of(b"start 001 001 001 001 001 001 001"))
     # Some of these are good: picture takes any number of slots.
     w.raw(*shapes_of(b"picture 001 001 001"))
     w.raw(b"", b" ", b"  ", b"\t", b"\r", b"\0", b"\xff", b"000", b"000 local",
@@ -361,7 +556,7 @@ def bad_shapes(w):
 
 def odd_wishes(w):
     """To keep is 001 and not to keep 000; any other last number is a BadLine, and so is none."""
-    w.say("start", *X)
+    w.start(*X)
     w.say("send", 0, 1, 1)
     for numbers in ("local 000", "send 000 002", "receive 001 000", "reset 000",
                     "local 999", "send 003 003", "receive 001 031", "reset 003"):
@@ -388,7 +583,7 @@ def shapes_of(good):
 
 
 def long_lines(w):
-    w.say("start", *X)
+    w.start(*X)
     for length in (62, 63, 64, 65, 66, 127, 128, 129, 130, 200, 256, 265, 1000):
         w.raw(b"local 000 001".ljust(length), b"local 000 001".rjust(length), b"x" * length,
               b"local 000 001".ljust(length, b"\0"), b"\xff" * length)
@@ -405,7 +600,7 @@ def long_lines(w):
 # Rooms
 
 def full_mail(w):
-    w.say("start", 3, 5, 255, 2, 4, 2, 2)
+    w.start(3, 5, (255, 200, 100), 2, 4, 2, 2)
     for place in range(33):
         w.say("send", place % 3, (place + 1) % 3, 0)
     w.say("send", 0, 1, 1)
@@ -426,7 +621,7 @@ def full_mail(w):
 
 
 def full_shelf(w):
-    w.say("start", 3, 5, 255, 2, 4, 2, 2)
+    w.start(3, 5, (255, 200, 100), 2, 4, 2, 2)
     for slot in range(33):
         w.say("local", slot % 3, 1)
     w.say("drop", 31)
@@ -441,7 +636,7 @@ def full_shelf(w):
 
 def last_slot(w):
     """Each event about the last slot; the one that is freed is used again, wherever it is."""
-    w.say("start", 3, 11, 255, 5, 9, 3, 3)
+    w.start(3, 11, (255, 200, 100), 5, 9, 3, 3)
     for _ in range(31):
         w.say("local", 0, 1)
     for _ in range(5):
@@ -475,7 +670,7 @@ def follow(w):
 
 def mail_behind(w):
     """An old mail must not come back as new."""
-    w.say("start", 3, 3, 60, 1, 2, 1, 2)
+    w.start(3, 3, unlike(3, 60), 1, 2, 1, 2)
     w.say("send", 0, 2, 0)
     for _ in range(3):
         w.say("reset", 0, 0)
@@ -494,7 +689,7 @@ def mail_behind(w):
 def shelf_behind(w):
     """A kept reset is asked about the stamps that were kept before it, not about its own."""
     for A in (1, 2):
-        w.say("start", 3, 3, 60, 1, A, 1, 2)
+        w.start(3, 3, unlike(3, 60), 1, A, 1, 2)
         w.say("local", 1, 1)
         for _ in range(3):
             w.say("reset", 0, 0)
@@ -508,7 +703,7 @@ def shelf_behind(w):
 
 
 def seats_not_started_count(w):
-    w.say("start", 8, 3, 9, 1, 2, 1, 1)
+    w.start(8, 3, unlike(8, 9), 1, 2, 1, 1)
     w.say("reset", 0, 0)
     for desk in range(1, 7):
         w.tell(0, desk)
@@ -522,7 +717,7 @@ def seats_not_started_count(w):
 def old_mail(w):
     """The last of three mails tells of its sender, the others of nobody, as a ring of three comes round."""
     for D in (2, 8):
-        w.say("start", D, 3, 40, 1, 2, 1, 2)
+        w.start(D, 3, unlike(D, 40), 1, 2, 1, 2)
         for _ in range(4):
             first = w.mailed(0, 1)
             w.say("reset", 0, 0)
@@ -536,7 +731,7 @@ def old_mail(w):
 
 def all_seven(w):
     """Eight desks turn and pass on what they heard, desk 0 tells what came to it; then comes old mail."""
-    w.say("start", 8, 3, 40, 1, 2, 1, 2)
+    w.start(8, 3, unlike(8, 40), 1, 2, 1, 2)
     for _ in range(4):
         late = [w.mailed(0, desk) for desk in range(1, 8)]
         for desk in range(8):
@@ -554,7 +749,7 @@ def all_seven(w):
 
 def older_and_newer(w):
     """Desk 3 hears of 0, 1 and 2, then 4 of 0 and 1, and 7 hears 4 before 3; meanwhile desk 0 turns."""
-    w.say("start", 8, 3, 40, 1, 2, 1, 2)
+    w.start(8, 3, unlike(8, 40), 1, 2, 1, 2)
     for keep in (0, 1, 1, 0):
         for desk in (0, 1, 2):
             w.hears(1, desk, 3)
@@ -577,7 +772,7 @@ def lap(w):
 def rings(w):
     """With D from 2 to 8 every ring comes round two or three times."""
     for D in range(2, 9):
-        w.say("start", D, 3, 6, 1, 2, 2, 1)
+        w.start(D, 3, unlike(D, 6), 1, 2, 2, 1)
         while turned(w.run) < (3 if D < 5 else 2):
             ring_turn(w, D)
 
@@ -597,7 +792,7 @@ def ring_turn(w, D):
 
 def kept_rings(w):
     """Every event is kept where a slot is free, so the shelf is full again and again; four rings."""
-    w.say("start", 3, 3, 30, 1, 2, 2, 1)
+    w.start(3, 3, unlike(3, 30), 1, 2, 2, 1)
     while turned(w.run) < 4:
         for desk in (0, 1, 2, 0, 1, 2):
             w.tell(desk, (desk + 1) % 3, 1)
@@ -609,8 +804,8 @@ def kept_rings(w):
 
 
 def ring_of_255(w):
-    """P 255, L 2: both desks come round, some 127 phases at a stretch."""
-    w.say("start", 2, 255, 2, 127, 254, 127, 127)
+    """P 255, limits of 2: both desks come round, some 127 phases at a stretch."""
+    w.start(2, 255, (2, 2), 127, 254, 127, 127)
     reach_of_127(w)
     w.tell(0, 1)
     for desk, turns in ((0, 2), (1, 130), (0, 130), (1, 130)):
@@ -638,7 +833,7 @@ def reach_of_127(w):
 
 
 def clock_of_255(w):
-    w.say("start", 8, 255, 255, 127, 254, 127, 127)
+    w.start(8, 255, (255,) * 8, 127, 254, 127, 127)
     for _ in range(253):
         w.say("local", 7, 0)
     w.say("local", 7, 1)
@@ -652,7 +847,7 @@ def clock_of_255(w):
 
 
 def clock_of_2(w):
-    w.say("start", 2, 5, 2, 2, 4, 3, 2)
+    w.start(2, 5, (2, 2), 2, 4, 3, 2)
     w.say("send", 0, 1, 0)
     w.say("local", 0, 1)
     w.say("local", 1, 1)
@@ -667,7 +862,7 @@ def clock_of_2(w):
 
 def nought_after_four(w):
     """0.0 is the newest of all when the ring has come round."""
-    w.say("start", 3, 5, 40, 2, 4, 2, 2)
+    w.start(3, 5, unlike(3, 40), 2, 4, 2, 2)
     turn_to(w, 4)
     w.say("send", 0, 1, 1)
     w.say("reset", 0, 1)
@@ -680,7 +875,7 @@ def nought_after_four(w):
 def one_way_out_of_reach(w):
     """Out of reach one way is never "concurrent"."""
     for m, n in ((1, 4), (4, 1), (2, 3)):
-        w.say("start", 3, 5, 20, 2, 4, m, n)
+        w.start(3, 5, unlike(3, 20), 2, 4, m, n)
         w.say("local", 0, 1)
         w.say("local", 1, 1)
         w.say("reset", 0, 1)
@@ -694,7 +889,7 @@ def one_way_out_of_reach(w):
 def reset_edge(w):
     """From a reset m phases back are within reach, from its local m-1; the ring comes round between."""
     for P, M, A, m, n in ((3, 1, 2, 1, 2), (4, 1, 3, 2, 2), (5, 2, 4, 3, 2)):
-        w.say("start", 3, P, 60, M, A, m, n)
+        w.start(3, P, unlike(3, 60), M, A, m, n)
         turn_to(w, P - 1)
         slots = [w.kept("local", 0), w.kept("local", 1)]
         for _ in range(m + 1):
@@ -706,7 +901,7 @@ def reset_edge(w):
 def resets_apart(w):
     """Two desks turn and hear nothing: each way goes by its own reset or local."""
     for m, n in ((1, 2), (2, 1)):
-        w.say("start", 2, 7, 4, 3, 6, m, n)
+        w.start(2, 7, unlike(2, 4), 3, 6, m, n)
         for _ in range(m + 1):
             slots = [w.kept(verb, desk) for desk in (0, 1) for verb in ("reset", "local")]
             w.two_ways(slots[:2], slots[2:])
@@ -716,7 +911,7 @@ def resets_apart(w):
 
 def pictures(w):
     """Desk 0 tells 1, which tells 2, which tells 0; each slot is one event of it."""
-    w.say("start", 3, 5, 20, 2, 4, 2, 2)
+    w.start(3, 5, unlike(3, 20), 2, 4, 2, 2)
     early = [w.kept("local", desk) for desk in range(3)]
     sent_0, heard_1 = w.kept_hears(0, 1)
     sent_1, heard_2 = w.kept_hears(1, 2)
@@ -754,7 +949,7 @@ def every_picture(w):
 
 def lists_of_slots(w):
     """A list is of D slots, each of them there: slots are wide, and the count is asked of the call."""
-    w.say("start", 3, 5, 20, 2, 4, 2, 2)
+    w.start(3, 5, unlike(3, 20), 2, 4, 2, 2)
     good = [w.kept("local", desk) for desk in range(3)]
     w.pictured(YES, *good)
     for slots in ((), good[:1], good[:2], good[1:], [*good, 0], [0, *good], [*good, 2], [*good, 999],
@@ -776,7 +971,7 @@ def lists_of_slots(w):
 
 def wrong_owners(w):
     """Each desk has its own place in the list."""
-    w.say("start", 3, 5, 20, 2, 4, 2, 2)
+    w.start(3, 5, unlike(3, 20), 2, 4, 2, 2)
     early = [w.kept("local", desk) for desk in range(3)]
     late = w.kept_hears(0, 1)
     for slots in itertools.product(early, repeat=3):
@@ -792,7 +987,7 @@ def wrong_owners(w):
 
 def pictures_out_of_reach(w):
     """Any two places, each way by its own stamp; from a reset it goes a phase further back."""
-    w.say("start", 3, 5, 20, 2, 4, 2, 2)
+    w.start(3, 5, unlike(3, 20), 2, 4, 2, 2)
     early = [w.kept("local", desk) for desk in range(3)]
     w.say("reset", 0, 0)
     heard = [w.kept("receive", desk, w.mailed(0, desk)) for desk in (1, 2)]
@@ -821,7 +1016,7 @@ def pictures_out_of_reach(w):
     # What is not there comes before.
     w.pictured(NO_PLACE, local, early[1])
     w.pictured(NO_PLACE, local, early[1], 31)
-    w.say("start", 2, 5, 20, 2, 4, 2, 2)
+    w.start(2, 5, unlike(2, 20), 2, 4, 2, 2)
     first = w.kept("local", 0)
     w.say("reset", 0, 0)
     second, third = w.kept("local", 0), w.kept("reset", 0)
@@ -834,7 +1029,7 @@ def pictures_out_of_reach(w):
 
 def nought_in_a_picture(w):
     """Desk 0 turns from 4 to 0, which is the newest phase: the byte that is less is later."""
-    w.say("start", 3, 5, 40, 2, 4, 2, 2)
+    w.start(3, 5, unlike(3, 40), 2, 4, 2, 2)
     turn_to(w, 4)
     four, heard_four = w.kept_hears(0, 1)
     other = w.kept("local", 2)
@@ -856,7 +1051,7 @@ def nought_in_a_picture(w):
 
 def clocks_beside_phases(w):
     """A later phase has the smaller clock, each way."""
-    w.say("start", 2, 5, 20, 2, 4, 2, 2)
+    w.start(2, 5, unlike(2, 20), 2, 4, 2, 2)
     for _ in range(5):
         w.say("local", 0, 0)
     early, heard_early = w.kept_hears(0, 1)
@@ -877,14 +1072,14 @@ def clocks_beside_phases(w):
 
 def every_two_of_eight(w):
     """Each two of eight desks are named, first by what the lower knows of the other, then the other way."""
-    w.say("start", 8, 3, 40, 1, 2, 1, 2)
+    w.start(8, 3, unlike(8, 40), 1, 2, 1, 2)
     early = [w.kept("local", desk) for desk in range(8)]
     w.pictured(YES, *early)
     # Who tells has heard nothing, and the lowest who has told it is named.
     for desk in range(8):
         for other in range(7, desk, -1):
             one_told(w, early, other, desk, odds(desk, other))
-    w.say("start", 8, 3, 40, 1, 2, 1, 2)
+    w.start(8, 3, unlike(8, 40), 1, 2, 1, 2)
     early = [w.kept("local", desk) for desk in range(8)]
     for desk in range(7, -1, -1):
         for other in range(desk - 1, -1, -1):
@@ -893,7 +1088,7 @@ def every_two_of_eight(w):
 
 def two_of_four(w):
     """Desks 0 and 3 are at odds, and 1 and 2: the lowest first desk decides, not the lowest second."""
-    w.say("start", 4, 3, 40, 1, 2, 1, 2)
+    w.start(4, 3, unlike(4, 40), 1, 2, 1, 2)
     early = [w.kept("local", desk) for desk in range(4)]
     heard_0, heard_1 = (w.kept("receive", to, w.mailed(3 - to, to)) for to in (0, 1))
     w.pictured(odds(0, 3), heard_0, heard_1, *early[2:])
@@ -910,7 +1105,7 @@ def one_told(w, early, desk, to, answer):
 def pictures_of_rings(w):
     """All hear of all and turn, time and again; of each turn and what came of it a picture is taken."""
     for D in (2, 3, 8):
-        w.say("start", D, 3, 40, 1, 2, 2, 1)
+        w.start(D, 3, unlike(D, 40), 1, 2, 2, 1)
         while turned(w.run) < 2:
             lap(w)
             lap(w)
@@ -923,19 +1118,21 @@ def pictures_of_rings(w):
 
 
 def unended(w):
-    w.say("start", *X)
+    w.start(*X)
     w.say("local", 2, 1)
 
 
 SECTIONS = (
     no_book_yet, example, case_1_and_2, case_3_to_8, case_9, case_10,
-    case_11_and_12, case_13, pictures, lists_of_slots, wrong_owners, pictures_out_of_reach,
+    case_11_and_12, case_13, case_14_to_16, limits_stay, start_lines,
+    pictures, lists_of_slots, wrong_owners, pictures_out_of_reach,
     nought_in_a_picture, clocks_beside_phases, two_of_four, every_two_of_eight,
     setups, odd_numbers, reasons_that_meet, lags_that_meet,
     bad_shapes, odd_wishes, long_lines, full_mail, full_shelf, last_slot, mail_behind,
     shelf_behind, seats_not_started_count, old_mail, all_seven, older_and_newer, rings,
-    kept_rings, ring_of_255, clock_of_255, clock_of_2, nought_after_four,
-    one_way_out_of_reach, reset_edge, resets_apart, pictures_of_rings, unended,
+    kept_rings, ring_of_255, clock_of_255, clock_of_2, clock_of_255_beside_2, bench_and_office,
+    nought_after_four, one_way_out_of_reach, reset_edge, resets_apart, pictures_of_rings,
+    last_clocks, all_last_clocks, more_start_lines, unended,
 )
 
 
@@ -963,7 +1160,9 @@ def require(holds, what):
 
 
 def check(w, printed):
-    require(EXAMPLE_ANSWERS in printed and EXAMPLE in b"\n".join(w.lines), "the example")
+    given = b"\n".join(w.lines)
+    require(EXAMPLE_ANSWERS in printed and EXAMPLE in given, "the example")
+    require(OWN_LIMITS_ANSWERS in printed and OWN_LIMITS in given, "cases 14 to 16")
     numbers = {int(text[:3]) for text in listing.lines_of(printed)}
     wanted = set(range(19)) - set(NO_LINE_GIVES)
     require(numbers == wanted, f"the numbers {wanted ^ numbers}")
@@ -972,6 +1171,8 @@ def check(w, printed):
     lengths = {len(text) for text in w.lines}
     require({0, 64, 65} <= lengths, "the lengths 0, 64 and 65")
     check_runs(w.runs)
+    check_limits(w.runs)
+    check_starts(w.lines, listing.lines_of(printed))
     check_reach(w.runs)
     check_shelf(w.lines)
     check_learnt(w.runs)
@@ -983,10 +1184,53 @@ def check_runs(runs):
     for D in range(2, 9):
         require(any(run.D == D and turned(run) >= 2 for run in runs),
                 f"rings come round at {D} desks")
-    for name, number in (("P", 3), ("P", 255), ("L", 2), ("L", 255)):
-        require(any(getattr(run, name) == number and run.events for run in runs),
-                f"{name} of {number}")
+    require(any(run.P == 3 and run.events for run in runs), "P of 3")
     require(any(run.P == 255 and turned(run) >= 1 for run in runs), "a ring of 255")
+
+
+def check_limits(runs):
+    """Limits used up; last clocks in every kind of row, of desks with smaller limits and with larger."""
+    require({2, 3, 4, 11, 201, 255} <= used_up(runs), "limits used up")
+    seen = set(last_clocks_in(runs))
+    require(LAST_CLOCKS <= seen, f"last clocks in {LAST_CLOCKS - seen}")
+
+
+# A row by its desk, which has a smaller limit than the column's desk, the same or a larger.
+LAST_CLOCKS = set(itertools.product(("seat", "sender", "addressee", "slot"), (-1, 0, 1)))
+
+
+def used_up(runs):
+    """The limits of which a desk has come to the last clock."""
+    return {run.limits[event.desk] for run in runs for event in run.events
+            if event.clock == run.limits[event.desk] - 1}
+
+
+def last_clocks_in(runs):
+    """Where a column's last clock stands, as LAST_CLOCKS has it."""
+    for run in runs:
+        rows = [("seat", event.desk, event) for event in run.events]
+        rows += [("sender", event.mail.desk, event.mail) for event in run.events if event.mail]
+        rows += [("addressee", event.desk, event.mail) for event in run.events if event.mail]
+        rows += [("slot", event.desk, event) for event in run.shelf if event]
+        for kind, desk, row in rows:
+            for limit, (_, clock) in zip(run.limits, row.pairs):
+                if clock == limit - 1:
+                    yield kind, (run.limits[desk] > limit) - (run.limits[desk] < limit)
+
+
+def check_starts(lines, printed):
+    """Each D with each number of limits, and lines of every length about the longest."""
+    told = [(listing.SHAPE.fullmatch(text), answer) for text, answer in zip(lines, printed)
+            if text.startswith(b"start")]
+    seen = {(int(shape[2][1:4]), len(shape[2]) // 4 - 6, answer) for shape, answer in told
+            if shape and shape[2]}
+    for D, count in itertools.product((0, 1, 9, 255, 256, 999), range(9)):
+        require((D, count, b"002") in seen, f"D of {D} and {count} limits")
+    for D, count in itertools.product(range(2, 9), range(-5, 10)):
+        wanted = b"000" if count == D else b"017"
+        require((D, count, wanted) in seen, f"D of {D} and {count} limits")
+    lengths = {len(text) for text in lines if text.startswith(b"start")}
+    require(set(range(57, 67)) <= lengths, "start lines of 57 to 66 bytes")
 
 
 def check_reach(runs):

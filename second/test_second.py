@@ -1,13 +1,16 @@
 """Tests of the second opinion itself: python3 second/test_second.py
 
-The example and the cases of docs/RULES.md; that the reach in phases is the reach
-by resets; that a kept event without a slot is refused whole and no call answers
-NoEvent; how much mail tells; pictures by hand, by sets of events and by ordinary
-vectors; that the fixed seeds and the stored listing find each error the desks
-would make; and that the runners report.
+The example and the cases of docs/RULES.md; that every clock goes by the limit of
+its column's desk; that the reach in phases is the reach by resets; that a kept
+event without a slot is refused whole and no call answers NoEvent; how much mail
+tells; pictures by hand, by sets of events and by ordinary vectors; that the fixed
+seeds and the stored listing find each error the desks would make; and that the
+runners report.
 """
 
+import collections
 import contextlib
+import functools
 import io
 import itertools
 import os
@@ -20,11 +23,45 @@ sys.path.insert(0, os.path.dirname(os.path.dirname(os.path.abspath(__file__))))
 
 from second import book, compare, line, listing, raw, seeds, stored
 
-X = book.Setup(3, 5, 4, 2, 4, 2, 2)
+X = book.Setup(3, 5, (4, 4, 4), 2, 4, 2, 2)
+Y = book.Setup(2, 5, (4, 2), 2, 4, 2, 2)
 
 
 def fresh(setup=X):
     return book.start(bytes(book.BOOK_BYTES), *setup)[2]
+
+
+@functools.cache
+def written(seed):
+    return seeds.written(seed)
+
+
+# A line and its answer; the limits and own clocks of the desks before it, and whether all have come round.
+Told = collections.namedtuple("Told", "text answer limits clocks come_round")
+
+
+@functools.cache
+def told(seed):
+    """The lines of a seed's listing."""
+    program, lines = listing.Program(), []
+    for text in listing.lines_of(seeds.listing(seed)):
+        run = program.run or NO_RUN
+        clocks = [run.own(desk)[1] for desk in range(run.D)]
+        come_round = run is not NO_RUN and stored.turned(run) > 0
+        lines.append(Told(text, program.answer(text).encode(), run.limits, clocks, come_round))
+    return lines
+
+
+NO_RUN = line.Run(0, 0, (), 0, 0, 0, 0)
+
+
+@functools.cache
+def stored_listing():
+    return stored.data(), stored.expected()
+
+
+def stored_lines():
+    return zip(*map(listing.lines_of, stored_listing()))
 
 
 def calls(given, *steps):
@@ -56,7 +93,7 @@ class Cases(unittest.TestCase):
                                 (3, 2, 2, book.BAD_SETUP), (3, 1, 3, book.BAD_SETUP),
                                 (4, 2, 2, book.DONE), (4, 1, 3, book.DONE),
                                 (254, 127, 127, book.DONE), (253, 127, 127, book.BAD_SETUP)):
-            setup = book.Setup(2, P, 2, 1, 1, m, n)
+            setup = book.Setup(2, P, (2, 2), 1, 1, m, n)
             e = label(0, (0, 1), (0, 0), setup=setup)
             self.assertEqual(book.start(bytes(book.BOOK_BYTES), *setup)[0], number)
             self.assertEqual(book.label_before(setup, e, e)[0], number)
@@ -120,7 +157,7 @@ class Cases(unittest.TestCase):
 
     def test_lopsided_reach_off_the_book(self):
         for m, n, answer in ((1, 3, "crossed"), (3, 1, "concurrent")):
-            setup = book.Setup(2, 4, 2, 1, 1, m, n)
+            setup = book.Setup(2, 4, (2, 2), 1, 1, m, n)
             e, f = (label(0, (phase, 1), (0, 0), setup=setup) for phase in (0, 2))
             self.assertEqual(book.label_compare(setup, e, f), (0, (answer,)))
 
@@ -151,6 +188,32 @@ class Cases(unittest.TestCase):
             self.assertEqual(book.compare(given, first, second)[:2], answer)
             self.assertEqual(book.compare(given, second, first)[:2], answer)
 
+    def test_14_phases_full_by_their_own_limits(self):
+        for desk, clocks in ((0, 3), (1, 1)):
+            steps = [("local", desk, 0)] * clocks
+            self.assertEqual(calls(fresh(Y), *steps)[1][0].row[2 * desk + 1], clocks)
+            self.assertEqual(calls(fresh(Y), *steps, ("local", desk, 0))[0], book.PHASE_FULL)
+
+    def test_15_a_last_clock_in_mail(self):
+        given = calls(fresh(Y), *[("local", 0, 0)] * 2, ("send", 0, 1, 0))[2]
+        self.assertEqual(book.row_at(given, book.place_at(0))[:4], bytes((0, 3, 0, 0)))
+        _, (stamp, learnt), given = calls(given, ("receive", 1, 0, 0))
+        self.assertEqual((stamp, learnt), ((1, bytes((0, 3, 0, 1)) + bytes(12)), 1))
+        for desk in (1, 0):
+            self.assertEqual(book.local(given, desk, 0), (book.PHASE_FULL, (), given))
+
+    def test_16_a_record_by_the_limits_of_its_columns(self):
+        record = bytes.fromhex("5354010200030001") + bytes(12)
+        for limits, number in (((4, 2), 0), ((2, 4), 14), ((3, 2), 14), ((4, 4), 0), ((255, 255), 0),
+                               ((4, 1), 2), ((1, 2), 2), ((4,), 2), ((4, 2, 2), 2), ((), 2)):
+            setup = Y._replace(limits=limits)
+            self.assertEqual(book.label_compare(setup, record, record)[0], number, limits)
+            self.assertEqual(book.label_before(setup, record, label(0, (0, 0), (0, 0), setup=Y))[0], number)
+            self.assertEqual(book.label_newest(setup, label(1, (0, 0), (0, 0), setup=Y), record)[0], number)
+
+    def test_14_to_16_by_lines(self):
+        self.assertEqual(listing.answers(stored.OWN_LIMITS), stored.OWN_LIMITS_ANSWERS)
+
     def test_newest(self):
         old, new = label(0, (4, 3), (0, 0), (0, 0)), label(0, (0, 0), (0, 0), (0, 0))
         later = label(0, (0, 1), (0, 0), (0, 0))
@@ -175,9 +238,134 @@ class Cases(unittest.TestCase):
             self.assertEqual(book.local(given, 0, big), book.local(given, 0, 1))
 
 
+# Limits, each desk's own.
+
+UNLIKE = book.Setup(8, 99, (70, 71, 2, 73, 255, 75, 200, 10), 44, 55, 33, 66)
+FREE_ROOMS = (b"MA" + bytes(18)) * 32 + (b"SH" + bytes(18)) * 32
+
+
+class Limits(unittest.TestCase):
+    def test_the_bytes_of_a_fresh_book(self):
+        for setup in (UNLIKE, Y, X, UNLIKE._replace(D=5, limits=(255, 2, 3, 254, 100))):
+            D, P, limits, M, A, m, n = setup
+            seats = [b"SE\0" + bytes((limit,)) + bytes(16) for limit in (*limits, *[0] * (8 - D))]
+            made = b"BK" + bytes((D, P, 0, M, A, m, n, 0, 0, 0, 0, 0, 0, 0)) + b"".join(seats) + FREE_ROOMS
+            self.assertEqual(book.start(b"\xff" * 1456, *setup), (0, (), made))
+            self.assertEqual(line.Run(*setup).book(), made)
+            self.assertEqual(book.setup_of(made), setup)
+
+    def test_permitted(self):
+        """By start, off the book and on the line alike: one for each desk, each from 2 to 255."""
+        zero = bytes(book.BOOK_BYTES)
+        for D in range(2, 9):
+            for length in (*range(11), 256 + D):
+                self.asked(zero, UNLIKE._replace(D=D, limits=[2] * length), length == D)
+            for desk in range(D):
+                for limit in (0, 1, 2, 3, 254, 255, 256, 258, 2**16 + 2, 2**32 + 2, 2**64 - 1, 2**64 + 2):
+                    limits = seeds.placed([4] * D, desk, limit)
+                    self.asked(zero, UNLIKE._replace(D=D, limits=limits), 2 <= limit <= 255)
+        for D in (0, 1, 9, 10, 256, 258, 2**64):
+            for length in (0, 1, 2, 8, 9, 10):
+                self.asked(zero, UNLIKE._replace(D=D, limits=[4] * length), False)
+
+    def asked(self, zero, setup, good):
+        number = book.DONE if good else book.BAD_SETUP
+        started, _, after = book.start(zero, *setup)
+        self.assertEqual((started, after == zero), (number, not good), setup)
+        self.assertEqual(book.start(zero[1:], *setup)[0], book.BAD_BOOK)
+        self.assertEqual(line.permitted(*setup), good)
+        self.assertEqual(book.label_before(setup, b"", b"")[0], 14 if good else 2)
+
+    def test_every_byte_of_a_limit(self):
+        """2 to 255 below D, started or not, and 0 above; in the header 0 alone."""
+        for given in (fresh(X), calls(fresh(X), ("local", 0, 0), ("reset", 2, 1))[2]):
+            for desk, byte in itertools.product(range(8), range(256)):
+                sound = byte >= 2 if desk < 3 else byte == 0
+                self.assertEqual(book.sound(raw.with_byte(given, book.limit_at(desk), byte)), sound)
+            for byte in range(1, 256):
+                self.assertFalse(book.sound(raw.with_byte(given, 4, byte)))
+
+    def test_one_limit_in_the_header(self):
+        for setup in (X, Y, UNLIKE):
+            given = fresh(setup)
+            for desk in range(8):
+                given = raw.with_byte(given, book.limit_at(desk), 0)
+            for byte in (0, 4, 255):
+                self.assertFalse(book.sound(raw.with_byte(given, 4, byte)))
+
+    def test_every_row_by_the_limits_of_its_columns(self):
+        """In each seat, place and slot, for each desk: the last clock is sound, the next two are not."""
+        rng = random.Random(8)
+        for limits in itertools.permutations((2, 5, 200)):
+            given = raw.sound_book_of(rng, X._replace(limits=limits), [True] * 3)
+            given = raw.shelf_with(rng, given, 1, 0)
+            for place in range(32):
+                at, (sender, addressee) = book.place_at(place), rng.sample((1, 2, 3), 2)
+                row = book.row_at(given, book.seat_at(0))
+                given = given[:at] + b"MA" + bytes((sender, addressee)) + row + given[at + 20:]
+            for record in (*range(16, 76, 20), *range(176, 1456, 20)):
+                for column, limit in enumerate(limits):
+                    at = record + 5 + 2 * column
+                    clocks = [raw.with_byte(given, at, limit + more) for more in (-1, 0, 1)]
+                    self.assertEqual([book.sound(one) for one in clocks], [True, False, False])
+
+    def test_a_limit_over_a_clock(self):
+        """A limit is sound where it is above each clock of its column, wherever that stands."""
+        rng = random.Random(9)
+        for _ in range(20):
+            setup = raw.setup_of_desks(rng, 3)
+            given = raw.sound_book_of(rng, setup)
+            for column in range(3):
+                last = max(given[record + 5 + 2 * column] for record in range(16, 1456, 20))
+                for limit in {0, 1, 2, last - 1, last, last + 1, 255} - {-1}:
+                    lowered = raw.with_byte(given, book.limit_at(column), limit)
+                    self.assertEqual(book.sound(lowered), limit > last and limit >= 2)
+
+    def test_lines_follow_each_limit(self):
+        """Every event keeps below the limits, and a desk is refused at its own last clock alone."""
+        seen = set()
+        for seed in range(1, 101):
+            for run in written(seed).runs:
+                for event in run.events:
+                    self.assertTrue(all(clock < limit for (_, clock), limit in zip(event.pairs, run.limits)))
+            seen |= set(full_in(told(seed)))
+        self.assertEqual({(verb, own) for verb, own, _ in seen}, set(itertools.product(COUNTING, (True,))))
+        self.assertLessEqual(set(itertools.product(COUNTING, (True,), (-1, 0, 1))), seen)
+
+    def test_seeds_use_up_every_kind_of_limit(self):
+        runs = [run for seed in range(1, 101) for run in written(seed).runs]
+        self.assertLessEqual(stored.LAST_CLOCKS, set(stored.last_clocks_in(runs)))
+        self.assertLessEqual({2, 3, 4, 10, 11, 200, 201, 254, 255}, stored.used_up(runs))
+        self.assertTrue(any(len(set(run.limits)) == 1 for run in runs))
+        self.assertEqual({run.D for run in runs if len(set(run.limits)) > 1}, set(range(2, 9)))
+
+    def test_no_line_but_start_changes_a_limit(self):
+        program, limits = listing.Program(), set()
+        for one in told(1) + told(2):
+            before = program.book
+            self.assertEqual(program.answer(one.text).encode(), one.answer)
+            if one.text.startswith(b"start") and one.answer == b"000":
+                limits.add(program.book[19:176:20])
+            else:
+                self.assertEqual(before[19:176:20], program.book[19:176:20])
+        self.assertGreater(len(limits), 2)
+
+
+COUNTING = "local", "send", "receive"
+
+
+def full_in(lines):
+    """Of each PhaseFull: the verb, if it is at the last clock, and how the limit is beside the next desk's."""
+    for text, _, limits, clocks, _ in (one for one in lines if one.answer == b"008"):
+        verb, (desk, *_) = listing.parse(text)
+        following = limits[(desk + 1) % len(limits)]
+        yield (verb, clocks[desk] == limits[desk] - 1,
+               (limits[desk] > following) - (limits[desk] < following))
+
+
 # Kept events, under a setup by which 32 of them go on the shelf.
 
-ROOMY = book.Setup(3, 11, 255, 5, 9, 3, 3)
+ROOMY = book.Setup(3, 11, (255, 255, 255), 5, 9, 3, 3)
 KEPT_EVENTS = (("local", 1), ("send", 1, 2), ("receive", 2, 0), ("reset", 1))
 
 
@@ -220,7 +408,7 @@ class Keeping(unittest.TestCase):
         """A kept reset may leave a row behind, but never its own."""
         given = calls(fresh(X), ("reset", 0, 1), ("reset", 0, 1))[2]
         self.assertEqual(book.reset(given, 0, 1)[0], book.SEAT_BEHIND)
-        setup = book.Setup(2, 3, 9, 1, 1, 1, 1)
+        setup = book.Setup(2, 3, (9, 9), 1, 1, 1, 1)
         steps = [("reset", 0, 1), ("send", 0, 1, 0), ("receive", 1, 0, 0)]
         given = calls(fresh(setup), *steps, *steps)[2]
         self.assertEqual(book.reset(given, 0, 1)[0], book.SHELF_BEHIND)
@@ -238,15 +426,14 @@ class Keeping(unittest.TestCase):
     def test_no_call_answers_no_event(self):
         asked = {asked.number for batch in raw.batches(raw.DEFAULT_CALLS, 7) for asked in batch}
         self.assertEqual(asked, set(range(19)) - {book.NO_EVENT, book.BAD_LINE})
-        listings = [stored.data(), *map(seeds.listing, range(501, 541))]
-        printed = {text[:3] for data in listings for text in listing.lines_of(listing.answers(data))}
+        printed = {line[1][:3] for lines in (stored_lines(), *map(told, range(1, 101))) for line in lines}
         self.assertNotIn(b"007", printed)
 
 
 # How much a desk learns, by hand and against the history.
 
 OLD_MAIL = b"""\
-start 003 003 009 001 002 001 002
+start 003 003 009 009 009 001 002 001 002
 send 000 001 000
 reset 000 000
 send 000 001 000
@@ -287,7 +474,7 @@ class Learning(unittest.TestCase):
             self.assertEqual(book.later(given, 1, held, told), (told if changed else held, changed))
 
     def test_eight_desks_pass_on_what_they_heard(self):
-        given = fresh(ROOMY._replace(D=8))
+        given = fresh(ROOMY._replace(D=8, limits=(255,) * 8))
         for desk, number in enumerate((1, 2, 3, 4, 5, 6, 7, 7, 7)):
             desk, to = desk % 8, (desk + 1) % 8
             _, (_, learnt), given = calls(given, ("send", desk, to, 0), ("receive", to, 0, 0))
@@ -305,7 +492,7 @@ class Learning(unittest.TestCase):
 
     def test_an_entry_changes_by_events_of_its_desk(self):
         for seed in range(1, 41):
-            for run in seeds.written(seed).runs:
+            for run in written(seed).runs:
                 for event in run.events:
                     self.hold(run, event)
 
@@ -318,13 +505,13 @@ class Learning(unittest.TestCase):
             self.assertEqual(line.learnt(event), len(told) - 1)
 
     def test_seeds_tell_of_every_number(self):
-        stored.check_learnt([run for seed in range(1, 101) for run in seeds.written(seed).runs])
+        stored.check_learnt([run for seed in range(1, 101) for run in written(seed).runs])
 
 
 # Pictures by hand, and against the history.
 
 PICTURES = b"""\
-start 003 005 009 002 004 002 002
+start 003 005 009 009 009 002 004 002 002
 picture
 local 000 001
 local 001 001
@@ -401,7 +588,7 @@ def on_shelf(given, slot, owner, *pairs):
     return given[:at] + kept + given[at + 20:]
 
 
-TWO = X._replace(D=2)
+TWO = X._replace(D=2, limits=(4, 4))
 
 # Of a desk at phase 0 its own pair, what the other knows of it, and the answer.
 YES, ODDS, TOO_FAR = (0, (True,)), (0, (0, 1)), (book.OUT_OF_REACH, ())
@@ -438,7 +625,7 @@ class Picturing(unittest.TestCase):
         self.assertEqual(pictured(given, 0, 1), (0, (0, 1)))
 
     def test_the_lowest_first_then_the_lowest_second(self):
-        setup = X._replace(D=4)
+        setup = X._replace(D=4, limits=(4,) * 4)
         for told, answer in (({}, (True,)), ({(3, 0), (2, 1)}, (0, 3)), ({(0, 3), (1, 2)}, (0, 3)),
                              ({(0, 3), (2, 0)}, (0, 2)), ({(2, 3), (3, 1)}, (1, 3)), ({(3, 2)}, (2, 3)),
                              ({(1, 0), (0, 1)}, (0, 1)), ({(1, 2), (1, 3), (2, 3)}, (1, 2))):
@@ -475,7 +662,7 @@ class Picturing(unittest.TestCase):
         self.assertEqual(pictured(given, 1, 0), (book.WRONG_OWNER, ()))
 
     def test_ordinary_vectors_count_the_past(self):
-        for run in (run for seed in range(1, 21) for run in seeds.written(seed).runs):
+        for run in (run for seed in range(1, 21) for run in written(seed).runs):
             for event in run.events:
                 counts = [sum(one.desk == desk for one in event.past) for desk in range(run.D)]
                 self.assertEqual(event.counts, counts)
@@ -483,7 +670,7 @@ class Picturing(unittest.TestCase):
     def test_sets_and_vectors_show_the_same(self):
         """Of any events, kept or not, within reach or not; no two are at odds both ways."""
         rng, seen = random.Random(5), set()
-        for run in (run for seed in range(1, 41) for run in seeds.written(seed).runs):
+        for run in (run for seed in range(1, 41) for run in written(seed).runs):
             made = [[event for event in run.events if event.desk == desk] for desk in range(run.D)]
             for _ in range(10 if all(made) else 0):
                 chosen = [rng.choice(events[-rng.randint(1, len(events)):]) for events in made]
@@ -499,14 +686,12 @@ class Picturing(unittest.TestCase):
 
     def test_the_present_is_a_picture(self):
         """The last event of each desk, whatever has come round."""
-        for run in (run for seed in range(1, 41) for run in seeds.written(seed).runs):
+        for run in (run for seed in range(1, 41) for run in written(seed).runs):
             if all(run.last):
                 self.assertEqual(run.pictured(run.last), (True,))
 
     def test_seeds_take_every_picture(self):
-        seen = set()
-        for data in map(seeds.listing, range(1, 101)):
-            seen |= set(pictures_in(data))
+        seen = {picture for seed in range(1, 101) for picture in pictures_in(told(seed))}
         self.assertEqual({answer[:3] for _, answer, _ in seen}, {b"000", b"001", b"005", b"016", b"018"})
         two = {answer for _, answer, _ in seen if answer.count(b" ") == 2}
         self.assertGreater(len(two), 15)
@@ -516,15 +701,12 @@ class Picturing(unittest.TestCase):
             self.assertIn((0, answer, True), seen)
 
 
-def pictures_in(data):
+def pictures_in(lines):
     """How many slots there are beside D, the answer, and whether each desk has come round."""
-    program = listing.Program()
-    for text in listing.lines_of(data):
-        answer = program.answer(text).encode()
-        verb, slots = listing.parse(text) or (None, ())
+    for one in lines:
+        verb, slots = listing.parse(one.text) or (None, ())
         if verb == "picture":
-            desks = program.run.D if program.run else 0
-            yield len(slots) - desks, answer, bool(program.run) and stored.turned(program.run) > 0
+            yield len(slots) - len(one.limits), one.answer, one.come_round
 
 
 # The reach by the resets themselves, against the reach in phases.
@@ -547,7 +729,7 @@ class Reach(unittest.TestCase):
     def test_phases_count_resets(self):
         seen = set()
         for seed in range(1, 101):
-            for run in seeds.written(seed).runs:
+            for run in written(seed).runs:
                 for e in run.events:
                     seen |= self.hold(run, e)
         edges = itertools.product((False, True), ("back", "ahead"), (-1, 0, 1))
@@ -577,11 +759,46 @@ class Text(unittest.TestCase):
                     b"local 00\xb2 000", b"show 000", b"keep 000", b"keep 000 001", b"drop 000 000",
                     b"local 000 000" + b" " * 60, b"local 007 000\0"):
             self.assertEqual(listing.answers(bad), b"017\n", bad)
-        self.assertEqual(listing.answers(b"start 999 999 999 999 999 999 999"), b"002\n")
+
+    def test_start_lines(self):
+        """Six numbers beside the limits; a bad D is a BadSetup, a good one that is not the count a BadLine."""
+        for D, count in itertools.product((*range(300), 512, 999), range(-6, 12)):
+            numbers = (D, 5, *[4] * count, 2, 4, 2, 2)[:6 + count]
+            answer = b"017\n" if count < 0 or count > 8 else b"002\n"
+            if D in range(2, 9):
+                answer = b"000\n" if count == D else b"017\n"
+            self.assertEqual(listing.answers(seeds.text_of("start", *numbers)), answer, numbers)
+
+    def test_start_lines_by_hand(self):
+        for number, numbers in stored.START_LINES:
+            text = b" ".join([b"start", *numbers.encode().split()])
+            self.assertEqual(listing.answers(text), b"%03d\n" % number, text)
+        longest = b"start 008 005 004 002 255 003 002 200 010 254 002 004 002 002"
+        self.assertEqual((len(longest), listing.answers(longest)), (61, b"000\n"))
+        for more in (b" ", b"0", b" 0", b" 00", b" 002", b"\r", b"\0", b"   "):
+            self.assertEqual(listing.answers(longest + more), b"017\n")
+
+    def test_a_refused_start_leaves_the_book(self):
+        """Both a BadSetup and a BadLine."""
+        given = b"start 002 005 004 002 002 004 002 002\nlocal 001 000\n"
+        for text in (b"start 009 005 004 002 002 004 002 002", b"start 002 005 009 002 004 002 002",
+                     b"start 002 005 009 001 002 004 002 002", b"start 002 005 009 009 009 002 004 002 002"):
+            printed = listing.answers(given + text + b"\nlocal 001 000\nlocal 000 000\n")
+            self.assertEqual(printed.split(b"\n")[3:5], [b"008", b"000 000 000.001 000.000"])
+
+    def test_seeds_write_every_start_line(self):
+        """Each D with its count of limits and with others, few numbers, and a D that is none."""
+        seen = {one for seed in range(1, 101) for one in starts_in(told(seed))}
+        self.assertLessEqual({(D, 0, b"000") for D in range(2, 9)}, seen)
+        self.assertLessEqual({(2, more, b"017") for more in (-2, -1, 1, 6)}, seen)
+        self.assertLessEqual({(8, more, b"017") for more in (-8, -1, 1)}, seen)
+        for D in (0, 1, 9, 255, 256, 999):
+            self.assertLess(1, len({more for desks, more, answer in seen if (desks, answer) == (D, b"002")}))
+        self.assertEqual({answer for _, more, answer in seen if more is None}, {b"017"})
 
     def test_the_last_number_of_an_event(self):
         """Any but 000 and 001 is a BadLine, whatever the call would answer."""
-        mail = b"start 003 005 004 002 004 002 002\nsend 000 001 000\n"
+        mail = b"start 003 005 004 004 004 002 004 002 002\nsend 000 001 000\n"
         for event in (b"local 000", b"send 000 001", b"receive 001 000", b"reset 000",
                       b"local 999", b"send 000 000", b"receive 000 000", b"reset 003"):
             for last in (b" 002", b" 010", b" 100", b" 256", b" 999", b"", b" 000 000", b" 001 001"):
@@ -591,11 +808,20 @@ class Text(unittest.TestCase):
                 self.assertNotIn(b"017", listing.answers(mail + event + last))
 
 
+def starts_in(lines):
+    """Of each start line with a D: its D, how many limits there are more, and the answer."""
+    for text, answer, *_ in lines:
+        shape = listing.SHAPE.fullmatch(text)
+        if shape and shape[1] == b"start" and shape[2]:
+            D, count = int(shape[2][1:4]), len(shape[2]) // 4 - 6
+            yield D, count - D if count >= 0 else None, answer
+
+
 class Stored(unittest.TestCase):
     def test_files_are_what_is_written(self):
         folder = os.path.join(os.path.dirname(os.path.abspath(__file__)),
                               "..", "crates", "desks")
-        for name, data in (("stdin", stored.data()), ("stdout", stored.expected())):
+        for name, data in zip(("stdin", "stdout"), stored_listing()):
             with open(os.path.join(folder, name), "rb") as file:
                 self.assertEqual(file.read(), data, name)
 
@@ -603,11 +829,13 @@ class Stored(unittest.TestCase):
 # The errors the desks would make, each put in place of a part of book.py.
 
 TRUE = {name: getattr(book, name) for name in
-        ("receive", "reset_number", "lag_number", "merge", "later", "answer_compare",
-         "local_number", "send_number", "put_on_shelf", "shelf_full", "says_before",
-         "row_sound", "used_place_sound", "reach", "compare", "label_compare",
-         "difference_on_book", "difference_off_book", "permitted", "start", "sound",
-         "read_both", "picture", "picture_number", "chosen_number", "at_odds", "knows_more")}
+        ("local", "send", "receive", "reset", "reset_number", "lag_number", "merge", "later",
+         "answer_compare", "local_number", "send_number", "receive_number", "put_on_shelf",
+         "shelf_full", "says_before", "row_sound", "seats_sound", "mail_sound", "shelf_sound",
+         "used_place_sound", "reach", "compare", "label_compare", "difference_on_book",
+         "difference_off_book", "permitted", "limited", "start", "fresh_head", "sound",
+         "read_both", "read_stamp", "picture", "picture_number", "chosen_number", "at_odds",
+         "knows_more")}
 
 
 def lag_without_adding_P(own, phase, P):
@@ -782,22 +1010,303 @@ def unreachable_is_concurrent(e, f, d, back):
     return TRUE["answer_compare"](e, f, d, back)
 
 
-def any_filler(row, setup, own, limit):
-    return TRUE["row_sound"](row[:2 * setup.D] + bytes(16 - 2 * setup.D), setup, own, limit)
+def any_filler(row, setup, own, most):
+    return TRUE["row_sound"](row[:2 * setup.D] + bytes(16 - 2 * setup.D), setup, own, most)
 
 
-def phases_come_round(row, setup, own, limit):
+def phases_come_round(row, setup, own, most):
     """A phase off the ring is read by its remainder."""
     rounded = bytes(byte if at % 2 else byte % setup.P for at, byte in enumerate(row))
-    return TRUE["row_sound"](rounded, setup, [phase % setup.P for phase in own], limit)
+    return TRUE["row_sound"](rounded, setup, [phase % setup.P for phase in own], most)
 
 
-def one_more_lag(row, setup, own, limit):
-    return TRUE["row_sound"](row, setup, own, limit + 1)
+def one_more_lag(row, setup, own, most):
+    return TRUE["row_sound"](row, setup, own, most + 1)
 
 
 def to_oneself_is_sound(given, at, setup):
     return TRUE["used_place_sound"](given, at, setup) or given[at + 2] == given[at + 3]
+
+
+# Limits
+
+def the_first(limits):
+    return limits[:1] * len(limits)
+
+
+def the_next(limits):
+    return limits[1:] + limits[:1]
+
+
+def the_smallest(limits):
+    return (min(limits),) * len(limits)
+
+
+def the_largest(limits):
+    return (max(limits),) * len(limits)
+
+
+def one_more(limits):
+    return tuple(limit + 1 for limit in limits)
+
+
+def one_less(limits):
+    return tuple(limit - 1 for limit in limits)
+
+
+# The first four are limits that bytes hold.
+OTHER_LIMITS = (the_first, the_next, the_smallest, the_largest, one_more, one_less)
+
+
+def named(name, error, *parts):
+    """An error with its name told by what it is made of."""
+    error.__name__ = " ".join([name, *(part if isinstance(part, str) else part.__name__ for part in parts)])
+    return name, error
+
+
+def full_by(limits):
+    """An error: a phase is full by other limits."""
+    def full(given, desk):
+        return given[book.own_entry(desk) + 1] >= limits(book.setup_of(given).limits)[desk] - 1
+    return named("phase_full", full, limits)
+
+
+def full_by_desk(name, desk_of):
+    """An error: in one event the phase is full by the limit of the other desk."""
+    def number(given, desk, other, keep):
+        def full(given, desk):
+            limit = given[book.limit_at(desk_of(given, other))]
+            return given[book.own_entry(desk) + 1] >= limit - 1
+        with mock.patch.object(book, "phase_full", full):
+            return TRUE[name](given, desk, other, keep)
+    return named(name, number, desk_of)
+
+
+def the_addressee(given, to):
+    return to
+
+
+def the_sender(given, place):
+    return given[book.place_at(place) + 2] - 1
+
+
+def rows_by(limits):
+    """An error: every row of a book is held to other limits."""
+    def row_sound(row, setup, own, most):
+        return TRUE["row_sound"](row, setup._replace(limits=limits(setup.limits)), own, most)
+    return named("row_sound", row_sound, limits)
+
+
+def any_clock(row, setup, own, most):
+    return TRUE["row_sound"](row, setup._replace(limits=[256] * setup.D), own, most)
+
+
+def rows_of(name, records, desk_of, of_two):
+    """An error: one kind of row is held to the limit of a desk that it names, or to one of the two."""
+    def part(given):
+        with mock.patch.object(book, "row_sound", any_clock):
+            if not TRUE[name](given):
+                return False
+        limits = book.setup_of(given).limits
+        return all(clock < of_two(limit, limits[desk_of(given, record)])
+                   for record in records if given[record + 2]
+                   for limit, clock in zip(limits, given[record + 5:record + 20:2]))
+    return named(name, part, desk_of, of_two)
+
+
+def the_desk_of_the_seat(given, record):
+    return (record - book.SEAT_AT) // 20
+
+
+def the_sender_or_owner(given, record):
+    return given[record + 2] - 1
+
+
+def the_addressee_of_the_mail(given, record):
+    return given[record + 3] - 1
+
+
+def the_desks_alone(column, desk):
+    return desk
+
+
+KINDS_OF_ROWS = (
+    ("seats_sound", range(book.SEAT_AT, book.MAIL_AT, 20), the_desk_of_the_seat),
+    ("mail_sound", range(book.MAIL_AT, book.SHELF_AT, 20), the_sender_or_owner),
+    ("mail_sound", range(book.MAIL_AT, book.SHELF_AT, 20), the_addressee_of_the_mail),
+    ("shelf_sound", range(book.SHELF_AT, book.BOOK_BYTES, 20), the_sender_or_owner),
+)
+
+
+def reads_by(limits):
+    """An error: a record reads under other limits."""
+    def read_stamp(setup, record):
+        changed = limits(tuple(setup.limits))
+        return TRUE["read_stamp"](setup._replace(limits=changed), record)
+    return named("read_stamp", read_stamp, limits)
+
+
+def the_owners_limit_reads(setup, record):
+    owner = record[2] if len(record) > 2 and record[2] < setup.D else 0
+    return TRUE["read_stamp"](setup._replace(limits=[setup.limits[owner]] * setup.D), record)
+
+
+def started_with(limits):
+    """An error: start writes other limits."""
+    def fresh_head(D, P, given, *lags):
+        return TRUE["fresh_head"](D, P, limits(tuple(given)), *lags)
+    return named("fresh_head", fresh_head, limits)
+
+
+def a_limit_above_D(D, P, limits, *lags):
+    head = TRUE["fresh_head"](8, P, [*limits, *[2] * (8 - D)], *lags)
+    return raw.with_byte(head, 2, D)
+
+
+def the_limit_in_the_header(D, P, limits, *lags):
+    return raw.with_byte(TRUE["fresh_head"](D, P, [0] * D, *lags), 4, limits[0])
+
+
+def limit_lost_by(name, byte_of):
+    """An error: an event leaves another limit in the seat of its desk."""
+    def event(given, desk, *numbers):
+        number, values, after = TRUE[name](given, desk, *numbers)
+        if number == book.DONE:
+            byte = byte_of(given, desk, *numbers)
+            after = raw.with_byte(after, book.limit_at(desk), byte)
+        return number, values, after
+    return named(name, event, byte_of)
+
+
+def no_limit(given, *numbers):
+    return 0
+
+
+def the_senders_limit(given, desk, place, keep):
+    return given[book.limit_at(the_sender(given, place))]
+
+
+def a_limit_of_1(D, limits):
+    return TRUE["limited"](D, [max(2, limit) if limit else 0 for limit in limits])
+
+
+def desk_0_alone(D, limits):
+    """Of the others no limit is too small."""
+    return TRUE["limited"](D, [*limits[:1], *(max(2, limit) for limit in limits[1:])])
+
+
+def with_limits(name, limits, what):
+    """An error: a part takes a setup with the limits that are made of those given."""
+    def start(given, D, P, listed, *lags):
+        return TRUE["start"](given, D, P, limits(D, listed), *lags)
+
+    def read_both(setup, *labels):
+        D, P, listed, *lags = setup
+        return TRUE["read_both"]((D, P, limits(D, listed), *lags), *labels)
+    return named(name, {"start": start, "read_both": read_both}[name], what)
+
+
+def limits_modulo(name, size):
+    return with_limits(name, lambda D, limits: [limit % size for limit in limits], f"limits modulo {size}")
+
+
+def a_longer_list(name):
+    return with_limits(name, lambda D, limits: limits[:D], "a longer list will do")
+
+
+def a_shorter_list(name):
+    return with_limits(name, lambda D, limits: [*limits, *[4] * (min(D, 8) - len(limits))],
+                       "a shorter list will do")
+
+
+def limits_counted_by_a_byte(name):
+    return with_limits(name, lambda D, limits: limits[:len(limits) % 256], "a count of one byte")
+
+
+def limits_above_D_are_not_asked(given):
+    D = given[2]
+    for desk in range(D, 8):
+        given = raw.with_byte(given, book.limit_at(desk), 0)
+    return TRUE["seats_sound"](given)
+
+
+def sound_if(change):
+    """An error: a book is sound by what is made of its bytes."""
+    def sound(given):
+        return TRUE["sound"](change(given) if len(given) == book.BOOK_BYTES else given)
+    return named("sound", sound, change)
+
+
+def with_any_limit_not_started(given):
+    for desk in range(min(8, given[2])):
+        if given[book.seat_at(desk) + 2] == 0:
+            given = raw.with_byte(given, book.limit_at(desk), 255)
+    return given
+
+
+def without_the_headers(given):
+    return raw.with_byte(given, 4, 0)
+
+
+def with_the_headers(given):
+    """As if one limit in the header were for all."""
+    if given[4]:
+        for desk in range(min(8, given[2])):
+            given = raw.with_byte(given, book.limit_at(desk), given[4])
+    return without_the_headers(given)
+
+
+# Start lines
+
+TRUE_SETUP_IN = listing.setup_in
+
+
+def no_limits_are_counted(numbers):
+    if len(numbers) < 6:
+        return None
+    D, P, *limits, M, A, m, n = numbers
+    return D, P, limits, M, A, m, n
+
+
+def limits_are_always_counted(numbers):
+    setup = no_limits_are_counted(numbers)
+    return setup if setup and len(setup[2]) == setup[0] else None
+
+
+def another_D_is_a_bad_line(numbers):
+    setup = TRUE_SETUP_IN(numbers)
+    return setup if setup and setup[0] in range(2, 9) else None
+
+
+def D_by_its_last_byte(numbers):
+    return TRUE_SETUP_IN([numbers[0] % 256, *numbers[1:]] if numbers else numbers)
+
+
+def limits_that_are_many_are_cut(numbers):
+    D, P, limits, *lags = no_limits_are_counted(numbers) or (0, 0, ())
+    return (D, P, limits[:D], *lags) if D in range(2, len(limits)) else TRUE_SETUP_IN(numbers)
+
+
+def one_limit_is_for_all(numbers):
+    D, P, limits, *lags = no_limits_are_counted(numbers) or (0, 0, ())
+    return (D, P, limits * D, *lags) if D in range(2, 9) and len(limits) == 1 else TRUE_SETUP_IN(numbers)
+
+
+def another_D_alone_is_asked(numbers):
+    """With fewer numbers than any setup has."""
+    if numbers and numbers[0] not in range(2, 9):
+        return 0, 0, [], 0, 0, 0, 0
+    return TRUE_SETUP_IN(numbers)
+
+
+def six_numbers_are_too_few(numbers):
+    return TRUE_SETUP_IN(numbers) if len(numbers) != 6 else None
+
+
+LINE_ERRORS = [(listing, "setup_in", error) for error in (
+    no_limits_are_counted, limits_are_always_counted, another_D_is_a_bad_line, D_by_its_last_byte,
+    limits_that_are_many_are_cut, one_limit_is_for_all, another_D_alone_is_asked,
+    six_numbers_are_too_few)]
 
 
 # Pictures
@@ -926,7 +1435,8 @@ def a_shorter_list_will_do(given, *slots):
     """Desks that no slot is given for are not asked."""
     if not book.sound(given) or len(slots) >= given[2]:
         return TRUE["picture"](given, *slots)
-    with mock.patch.object(book, "setup_of", lambda _: book.Setup(*given[2:9])._replace(D=len(slots))), \
+    setup = book.setup_of(given)._replace(D=len(slots))
+    with mock.patch.object(book, "setup_of", lambda _: setup), \
             mock.patch.object(book, "sound", lambda _: True):
         return TRUE["picture"](given, *slots)
 
@@ -1001,8 +1511,8 @@ def the_first_label_is_asked_both_ways(setup, first, second):
 
 def a_phase_short(setup):
     """P of m+n-1 is permitted too."""
-    D, P, L, M, A, m, n = setup
-    return (TRUE["permitted"]((D, P, L, M, A, 1, 1)) and 1 <= m <= 127 and 1 <= n <= 127
+    D, P, limits, M, A, m, n = setup
+    return (TRUE["permitted"]((D, P, limits, M, A, 1, 1)) and 1 <= m <= 127 and 1 <= n <= 127
             and P >= m + n - 1)
 
 
@@ -1014,6 +1524,29 @@ def a_phase_short_for(name):
     part.__name__ = f"{name}: {a_phase_short.__name__}"
     return name, part
 
+
+# Limits too large are seen where a clock goes beyond its own, limits too small where it comes up to it.
+LIMIT_ERRORS = (
+    *map(full_by, OTHER_LIMITS), full_by_desk("send_number", the_addressee),
+    full_by_desk("receive_number", the_sender),
+    *map(rows_by, (the_first, the_next, the_smallest, one_less)),
+    *(rows_of(*kind, of_two) for kind in KINDS_OF_ROWS for of_two in (the_desks_alone, min)),
+    *map(started_with, OTHER_LIMITS[:4]), ("fresh_head", a_limit_above_D),
+    ("fresh_head", the_limit_in_the_header),
+    *(limit_lost_by(verb, no_limit) for verb in listing.EVENTS), limit_lost_by("receive", the_senders_limit),
+    ("limited", a_limit_of_1), ("limited", desk_0_alone), limits_modulo("start", 256),
+)
+
+RAW_LIMIT_ERRORS = (
+    *map(rows_by, (the_largest, one_more)), *(rows_of(*kind, max) for kind in KINDS_OF_ROWS),
+    *map(reads_by, OTHER_LIMITS), ("read_stamp", the_owners_limit_reads),
+    limits_modulo("read_both", 256),
+    *(limits_modulo(name, 2**bits) for name in ("start", "read_both") for bits in (16, 32, 63)),
+    *(list_of(name) for name in ("start", "read_both")
+      for list_of in (a_longer_list, a_shorter_list, limits_counted_by_a_byte)),
+    ("seats_sound", limits_above_D_are_not_asked),
+    *map(sound_if, (with_any_limit_not_started, without_the_headers, with_the_headers)),
+)
 
 KEEPING_ERRORS = (
     ("receive", receipt_without_a_slot_frees), ("receive", receipt_without_a_slot_is_made),
@@ -1051,15 +1584,16 @@ ERRORS = (
     ("answer_compare", unreachable_is_concurrent), ("permitted", a_phase_short),
     ("compare", the_first_is_asked_both_ways),
     *(by_reach("difference_on_book", reach) for reach in REACHES),
-    *KEEPING_ERRORS, *LEARNING_ERRORS, *PICTURE_ERRORS,
+    *LIMIT_ERRORS, *KEEPING_ERRORS, *LEARNING_ERRORS, *PICTURE_ERRORS,
 )
 
-# The last fourteen no listing can show: they need books that no run reaches, or a number that no line has.
+# The last ones no listing can show: they need records, books that no run reaches, or a number that no line has.
 RAW_ERRORS = (
     ("lag_behind", lag_without_adding_P), ("lag_behind", own_above_v_subtracts),
     ("later", larger_byte_is_later), ("says_before", nought_is_never_seen),
     ("receive", place_stays_used), ("receive", refused_receipt_frees),
-    ("lag_number", only_seats_are_checked), *KEEPING_ERRORS, *LEARNING_ERRORS, *PICTURE_ERRORS,
+    ("lag_number", only_seats_are_checked),
+    *LIMIT_ERRORS, *KEEPING_ERRORS, *LEARNING_ERRORS, *PICTURE_ERRORS,
     ("answer_compare", unreachable_is_concurrent), ("compare", the_first_is_asked_both_ways),
     ("label_compare", the_first_label_is_asked_both_ways),
     *(by_reach("difference_on_book", reach) for reach in REACHES),
@@ -1071,6 +1605,7 @@ RAW_ERRORS = (
     ("row_sound", phases_come_round), ("used_place_sound", to_oneself_is_sound),
     ("put_on_shelf", kept_by_the_last_byte), slots_modulo(2**16), slots_modulo(2**32),
     slots_modulo(2**63), ("picture", a_count_of_one_byte), ("at_odds", both_ways_cancel),
+    *RAW_LIMIT_ERRORS,
 )
 
 
@@ -1118,7 +1653,16 @@ def the_sender_alone_is_counted(desks, event):
     return counts
 
 
+def left_by_the_first(run, desk):
+    return run.limits[0] - 1 - run.own(desk)[1]
+
+
+def left_by_the_smallest(run, desk):
+    return min(run.limits) - 1 - run.own(desk)[1]
+
+
 SET_ERRORS = (
+    (line.Run, "left", left_by_the_first), (line.Run, "left", left_by_the_smallest),
     (line, "learnt", all_behind_count), (line, "learnt", the_receiver_counts),
     (line, "learnt", events_count), (line, "causes_of", the_next_causes_alone),
     (line.Run, "beyond", the_chosen_is_beyond), (line.Run, "up_to", all_have_come_in),
@@ -1126,28 +1670,30 @@ SET_ERRORS = (
 )
 
 
-def is_found(name, error, data, expected):
+def in_book(errors):
+    return [(book, *error) for error in errors]
+
+
+def is_found(part, name, error, lines):
     """Does a program that makes an error and checks nothing answer some line otherwise?"""
     program = listing.Program()
-    lines = zip(listing.lines_of(data), listing.lines_of(expected))
-    with mock.patch.object(book, name, error), \
+    with mock.patch.object(part, name, error), \
             mock.patch.object(listing.Program, "hold", lambda *_: None):
-        return any(program.answer(text).encode() != answer for text, answer in lines)
+        return any(program.answer(text).encode() != answer for text, answer, *_ in lines)
 
 
 class Errors(unittest.TestCase):
     def test_stored_listing_finds_each(self):
-        data, expected = stored.data(), stored.expected()
-        for name, error in ERRORS:
-            self.assertTrue(is_found(name, error, data, expected), error.__name__)
+        for part, name, error in (*in_book(ERRORS), *LINE_ERRORS):
+            self.assertTrue(is_found(part, name, error, stored_lines()), error.__name__)
 
     def test_seeds_find_each(self):
-        known = [(data, listing.answers(data)) for data in map(seeds.listing, range(1, 41))]
-        for name, error in ERRORS:
-            self.assertTrue(any(is_found(name, error, *one) for one in known), error.__name__)
+        for part, name, error in (*in_book(ERRORS), *LINE_ERRORS):
+            found = any(is_found(part, name, error, told(seed)) for seed in range(1, 101))
+            self.assertTrue(found, error.__name__)
 
     def test_the_two_routes_disagree(self):
-        data = stored.data()
+        data = stored_listing()[0]
         # Off the book nothing is held where the run is out of reach, so a reach too wide stays unseen.
         off_book = [by_reach("difference_off_book", reach) for reach in REACHES
                     if reach is not all_reach_like_resets]
@@ -1353,10 +1899,24 @@ def told_of_mail(trial):
     return raw.answer_of(*trial)[2][1], kinds, own, content[3] - 1 in apart
 
 
+def told_of_clock(first, second):
+    """Of the clock in which two books differ: whose row it is in, and how their limits are beside the column's."""
+    offset = next(at for at in range(book.BOOK_BYTES) if first[at] != second[at])
+    record = offset - (offset - book.SEAT_AT) % 20
+    limits, column = book.setup_of(first).limits, (offset - record - 5) // 2
+    if record < book.MAIL_AT:
+        desks = [("seat", (record - book.SEAT_AT) // 20)]
+    elif record < book.SHELF_AT:
+        desks = [("sender", first[record + 2] - 1), ("addressee", first[record + 3] - 1)]
+    else:
+        desks = [("slot", first[record + 2] - 1)]
+    return {(kind, raw.kind_of(limits[column], limits[desk])) for kind, desk in desks}
+
+
 def told_of_picture(trial):
     """How many desks there are, the kinds of what any two know of each other, and the values answered."""
     content, listed, *_ = (buffer.content() for buffer in raw.parted(trial[1])[1])
-    rows = [ages_of(content, book.slot_at(slot)) for slot in raw.slots_in(listed)]
+    rows = [ages_of(content, book.slot_at(slot)) for slot in raw.numbers_in(listed)]
     ages = [[pair[:2] for pair in row] for row in rows]
     kinds = {(i, k): (raw.kind_of(ages[k][k], ages[i][k]), raw.kind_of(ages[i][i], ages[k][i]))
              for i, k in itertools.combinations(range(len(rows)), 2)}
@@ -1366,8 +1926,10 @@ def told_of_picture(trial):
 class Raw(unittest.TestCase):
     @classmethod
     def setUpClass(cls):
-        """The same calls for every library, made once."""
-        cls.batches = list(raw.batches(raw.DEFAULT_CALLS, 1))
+        """The same calls for every library, made once; all kinds in each batch, so that errors are soon found."""
+        asked = list(itertools.chain.from_iterable(raw.batches(raw.DEFAULT_CALLS, 1)))
+        random.Random(1).shuffle(asked)
+        cls.batches = [asked[at:at + raw.BATCH] for at in range(0, len(asked), raw.BATCH)]
 
     def compare(self, library):
         with mock.patch.object(raw, "batches", lambda *_: self.batches):
@@ -1455,7 +2017,7 @@ class Raw(unittest.TestCase):
         seen = set()
         for name, arguments in raw.misfit_trials(random.Random(3)):
             content, listed, *_ = (buffer.content() for buffer in raw.parted(arguments)[1])
-            owners = tuple(content[book.slot_at(slot) + 2] - 1 for slot in raw.slots_in(listed) if slot < 32)
+            owners = tuple(content[book.slot_at(slot) + 2] - 1 for slot in raw.numbers_in(listed) if slot < 32)
             seen.add((owners, raw.answer_of(name, arguments)[0]))
         for owners in ((0, 0), (1, 1), (1, 0)):
             for number in (book.OUT_OF_REACH, book.WRONG_OWNER):
@@ -1466,13 +2028,93 @@ class Raw(unittest.TestCase):
     def test_lists_of_every_length(self):
         lengths, wide = set(), set()
         for name, arguments in raw.list_trials(random.Random(3)):
-            slots = raw.slots_in(raw.parted(arguments)[1][1].content())
+            slots = raw.numbers_in(raw.parted(arguments)[1][1].content())
             lengths.add(len(slots))
             wide |= {slot for slot in slots if slot > 31}
             if max(slots, default=0) > 31:
                 self.assertEqual(raw.answer_of(name, arguments)[0], book.NO_PLACE)
         self.assertLessEqual({*range(11), 256, 257, 258, 2**16 + 8}, lengths)
         self.assertLessEqual({32, 255, 256, 2**32, 2**64 - 1}, wide)
+
+    def test_no_call_but_start_changes_a_limit(self):
+        """Nor any byte of the header, on whatever book."""
+        for asked in itertools.chain.from_iterable(self.batches):
+            if asked.name not in ("start", *raw.LABEL_CALLS):
+                before = asked.arguments[0].content()
+                after = asked.memories[0][raw.GUARD:-raw.GUARD]
+                self.assertEqual(before[19:176:20], after[19:176:20])
+                self.assertEqual(before[:16], after[:16])
+
+    def test_clocks_about_their_limits(self):
+        """In threes: a column's last clock is sound and the next two are not, in every kind of row."""
+        trials = list(raw.clock_trials(random.Random(3)))
+        self.assertEqual([raw.answer_of(*trial)[0] == book.BAD_BOOK for trial in trials],
+                         [False, True, True] * (len(trials) // 3))
+        contents = [raw.parted(arguments)[1][0].content() for _, arguments in trials]
+        seen = {kind for two in zip(contents[::3], contents[1::3]) for kind in told_of_clock(*two)}
+        self.assertEqual(seen, stored.LAST_CLOCKS)
+
+    def test_phases_are_full_by_their_own_limits(self):
+        """By turns at the last clock and at the one before."""
+        numbers = [raw.answer_of(*trial)[0] for trial in raw.full_trials(random.Random(3))]
+        self.assertEqual({*numbers[::2]}, {book.PHASE_FULL})
+        self.assertNotIn(book.PHASE_FULL, numbers[1::2])
+        self.assertIn(book.DONE, numbers[1::2])
+
+    def test_records_about_their_limits(self):
+        """In fours: two clocks too large, the last one, and that under limits exchanged, by which it reads or not."""
+        numbers = [raw.answer_of(*trial)[0] for trial in raw.label_limit_trials(random.Random(3))]
+        self.assertEqual({*numbers[::4], *numbers[1::4]}, {book.BAD_STAMP})
+        self.assertEqual({*numbers[2::4]}, {book.DONE, book.OUT_OF_REACH})
+        self.assertEqual({*numbers[3::4]}, {book.DONE, book.OUT_OF_REACH, book.BAD_STAMP})
+
+    def test_lists_of_limits(self):
+        """Of every length, right for D or not; limits of every width, in range or not."""
+        rng, lists, limits = random.Random(3), set(), set()
+        for name, arguments in (*raw.limit_list_trials(rng), *raw.odd_limit_trials(rng)):
+            (D, *_), lent = raw.parted(arguments)
+            is_start = name == "start"
+            listed = raw.numbers_in(lent[is_start].content())
+            good = D in range(2, 9) and len(listed) == D and {*listed} <= {*range(2, 256)}
+            self.assertEqual(raw.answer_of(name, arguments)[0] == book.BAD_SETUP, not good)
+            lists.add((is_start, D, len(listed)))
+            limits |= {(is_start, limit) for limit in listed}
+        counts = {*itertools.product(range(2, 9), range(11)), *((D, 256 + D) for D in range(2, 9)),
+                  (8, 2**16 + 8), (0, 0), (1, 1), (9, 9), (10, 10), (258, 2), (2**32 + 8, 8)}
+        self.assertLessEqual({(is_start, *count) for is_start in (False, True) for count in counts}, lists)
+        self.assertLessEqual(set(itertools.product((False, True), (0, 1, 2, 255, 256, 257, 2**64 - 1))), limits)
+
+    def test_limits_damaged_in_each_seat(self):
+        """A fresh book is not sound by a limit of 0 or 1 below D, nor by any but 0 from D on."""
+        trials = list(raw.limit_byte_trials(random.Random(3)))
+        for at, (D, desk) in enumerate(itertools.product((2, 5, 8), range(8))):
+            numbers = [raw.answer_of(*trial)[0] for trial in trials[12 * at:12 * at + 12]]
+            bad = [True, True, False, False] if desk < D else [False, True, True, True]
+            self.assertEqual([number == book.BAD_BOOK for number in numbers[:4]], bad)
+            for number, never in zip(numbers, bad * 3):
+                self.assertTrue(number == book.BAD_BOOK or not never)
+
+    def test_limits_in_the_header(self):
+        self.assertEqual({raw.answer_of(*trial)[0] for trial in raw.header_limit_trials(random.Random(3))},
+                         {book.BAD_BOOK})
+
+    def test_a_setup_as_it_is_asked(self):
+        """The list of limits is lent behind the book, and before records, eight bytes for each limit."""
+        rng = random.Random(3)
+        limits = b"\4" + bytes(7) + b"\0\1" + bytes(6) + b"\xff" * 8
+        setup = 3, 5, [4, 256, 2**64 - 1], 2, 4, 6, 7
+        start = raw.call_on(rng, "start", raw.Lent(rng, b"book"), setup)
+        newest = raw.label_call(rng, "label_newest", setup, (b"first", b"second"))
+        for (name, arguments), place, lengths in ((start, 0, [4, 24]), (newest, 14, [24, 5, 6])):
+            numbers, lent = raw.parted(arguments)
+            self.assertEqual(numbers, [3, 5, 2, 4, 6, 7])
+            self.assertEqual([buffer.length for buffer in lent][:3], lengths)
+            self.assertEqual(lent[lengths.index(24)].content(), limits)
+            asked = raw.frame(raw.Asked(name, arguments, None, None))
+            self.assertEqual(asked[:3], bytes((place, 6, len(lent))))
+            self.assertEqual(asked[3:51:8], bytes((3, 5, 2, 4, 6, 7)))
+            self.assertEqual(sum(asked[3:51]), 27)
+            self.assertEqual(asked[51:59], lengths[0].to_bytes(8, "little"))
 
     def test_a_picture_as_it_is_asked(self):
         """The list is lent between the book and the value buffers, eight bytes for each slot, the least first."""
