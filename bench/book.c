@@ -3,8 +3,9 @@
 
 #include <string.h>
 
+/* The limits are no part of it: a book has them in its seats, a caller in a list. */
 struct setup {
-    size_t desks, phases, clocks, seat_lag, shelf_lag, back, ahead;
+    size_t desks, phases, seat_lag, shelf_lag, back, ahead;
 };
 
 /* A kept stamp or a stamp record, once it has been found. */
@@ -30,16 +31,32 @@ static int in_range(size_t number, size_t low, size_t high)
 /* The ranges come first: they keep the sums below from coming round. */
 static int setup_permitted(const struct setup *s)
 {
-    return in_range(s->desks, 2, 8) && in_range(s->phases, 3, 255) && in_range(s->clocks, 2, 255)
+    return in_range(s->desks, 2, 8) && in_range(s->phases, 3, 255)
         && in_range(s->seat_lag, 1, 127) && in_range(s->shelf_lag, 1, 254)
         && in_range(s->back, 1, 127) && in_range(s->ahead, 1, 127)
         && s->shelf_lag >= s->seat_lag && s->phases >= 2 * s->seat_lag + 1
         && s->phases >= s->shelf_lag + 1 && s->phases >= s->back + s->ahead;
 }
 
+static int limit_permitted(size_t limit)
+{
+    return in_range(limit, 2, 255);
+}
+
+/* One for each desk, and no more. */
+static int limits_permitted(const struct setup *s, const size_t *limits, size_t limits_len)
+{
+    if (limits_len != s->desks)
+        return 0;
+    for (size_t desk = 0; desk < limits_len; desk++)
+        if (!limit_permitted(limits[desk]))
+            return 0;
+    return 1;
+}
+
 static struct setup setup_of(const uint8_t *book)
 {
-    return (struct setup){book[2], book[3], book[4], book[5], book[6], book[7], book[8]};
+    return (struct setup){book[2], book[3], book[5], book[6], book[7], book[8]};
 }
 
 static int has_mark(const uint8_t *record, const uint8_t mark[2])
@@ -86,10 +103,16 @@ static size_t own_phase(const uint8_t *book, size_t desk)
     return book[seat_at(desk) + ROW_AT + 2 * desk];
 }
 
-static int pairs_in_range(const struct setup *s, const uint8_t *row)
+/* The desk's limit as its own seat has it: a clock is held to it in whosever row it stands. */
+static size_t own_limit(const uint8_t *book, size_t desk)
+{
+    return book[seat_at(desk) + LIMIT_AT];
+}
+
+static int pairs_in_range(const struct setup *s, const size_t *limits, const uint8_t *row)
 {
     for (size_t desk = 0; desk < s->desks; desk++)
-        if (row[2 * desk] >= s->phases || row[2 * desk + 1] >= s->clocks)
+        if (row[2 * desk] >= s->phases || row[2 * desk + 1] >= limits[desk])
             return 0;
     return all_zero(row + 2 * s->desks, ROW_BYTES - 2 * s->desks);
 }
@@ -98,7 +121,7 @@ static int row_sound(const uint8_t *book, const struct setup *s, const uint8_t *
 {
     for (size_t desk = 0; desk < s->desks; desk++) {
         size_t phase = row[2 * desk];
-        if (phase >= s->phases || row[2 * desk + 1] >= s->clocks)
+        if (phase >= s->phases || row[2 * desk + 1] >= own_limit(book, desk))
             return 0;
         if (lag(own_phase(book, desk), phase, s->phases) > most)
             return 0;
@@ -110,13 +133,13 @@ static int row_sound(const uint8_t *book, const struct setup *s, const uint8_t *
 static int seat_sound(const uint8_t *book, const struct setup *s, size_t desk)
 {
     const uint8_t *seat = book + seat_at(desk);
-    if (!has_mark(seat, seat_mark) || seat[2] > 1 || seat[3] != 0)
+    if (!has_mark(seat, seat_mark) || seat[2] > 1)
         return 0;
     if (seat[2] == 0 && !all_zero(seat + ROW_AT, ROW_BYTES))
         return 0;
     if (desk >= s->desks)
-        return seat[2] == 0;
-    return row_sound(book, s, seat + ROW_AT, s->seat_lag);
+        return seat[2] == 0 && seat[LIMIT_AT] == 0;
+    return limit_permitted(seat[LIMIT_AT]) && row_sound(book, s, seat + ROW_AT, s->seat_lag);
 }
 
 static int place_sound(const uint8_t *book, const struct setup *s, size_t place)
@@ -147,7 +170,7 @@ static int book_sound(const uint8_t *book, size_t book_len, struct setup *s)
     if (book_len != BOOK_BYTES || !has_mark(book, header_mark))
         return 0;
     *s = setup_of(book);
-    if (!setup_permitted(s) || !all_zero(book + 9, SEATS_AT - 9))
+    if (!setup_permitted(s) || book[4] != 0 || !all_zero(book + 9, SEATS_AT - 9))
         return 0;
     for (size_t desk = 0; desk < SEATS; desk++)
         if (!seat_sound(book, s, desk))
@@ -193,9 +216,9 @@ static size_t slot_for(const uint8_t *book, size_t keep)
     return keep ? lowest_free_slot(book) : 0;
 }
 
-static int phase_full(const uint8_t *book, const struct setup *s, size_t desk)
+static int phase_full(const uint8_t *book, size_t desk)
 {
-    return book[seat_at(desk) + ROW_AT + 2 * desk + 1] == s->clocks - 1;
+    return book[seat_at(desk) + ROW_AT + 2 * desk + 1] == own_limit(book, desk) - 1;
 }
 
 /* An event begins: the seat is started from now on, and its own clock grows. */
@@ -247,20 +270,23 @@ static void fresh_records(uint8_t *record, size_t count, const uint8_t mark[2])
     }
 }
 
-uint8_t plain_start(uint8_t *book, size_t book_len, size_t desks, size_t phases, size_t clocks,
-                    size_t seat_lag, size_t shelf_lag, size_t back, size_t ahead)
+uint8_t plain_start(uint8_t *book, size_t book_len, size_t desks, size_t phases,
+                    const size_t *limits, size_t limits_len, size_t seat_lag, size_t shelf_lag,
+                    size_t back, size_t ahead)
 {
-    struct setup s = {desks, phases, clocks, seat_lag, shelf_lag, back, ahead};
+    struct setup s = {desks, phases, seat_lag, shelf_lag, back, ahead};
     if (book_len != BOOK_BYTES)
         return BAD_BOOK;
-    if (!setup_permitted(&s))
+    if (!setup_permitted(&s) || !limits_permitted(&s, limits, limits_len))
         return BAD_SETUP;
     const uint8_t header[SEATS_AT] = {
-        header_mark[0], header_mark[1], (uint8_t)desks, (uint8_t)phases, (uint8_t)clocks,
+        header_mark[0], header_mark[1], (uint8_t)desks, (uint8_t)phases, 0,
         (uint8_t)seat_lag, (uint8_t)shelf_lag, (uint8_t)back, (uint8_t)ahead
     };
     memcpy(book, header, sizeof header);
     fresh_records(book + SEATS_AT, SEATS, seat_mark);
+    for (size_t desk = 0; desk < desks; desk++)
+        book[seat_at(desk) + LIMIT_AT] = (uint8_t)limits[desk];
     fresh_records(book + MAIL_AT, PLACES, mail_mark);
     fresh_records(book + SHELF_AT, SLOTS, shelf_mark);
     return DONE;
@@ -274,7 +300,7 @@ uint8_t plain_local(uint8_t *book, size_t book_len, size_t desk, size_t keep, ui
         return BAD_BOOK;
     if (desk >= s.desks)
         return NO_DESK;
-    if (phase_full(book, &s, desk))
+    if (phase_full(book, desk))
         return PHASE_FULL;
     size_t free_slot = slot_for(book, keep);
     if (free_slot == SLOTS)
@@ -307,7 +333,7 @@ uint8_t plain_send(uint8_t *book, size_t book_len, size_t desk, size_t to, size_
         return NO_DESK;
     if (desk == to)
         return SAME_DESK;
-    if (phase_full(book, &s, desk))
+    if (phase_full(book, desk))
         return PHASE_FULL;
     size_t free_place = lowest_free_place(book);
     if (free_place == PLACES)
@@ -361,7 +387,7 @@ uint8_t plain_receive(uint8_t *book, size_t book_len, size_t desk, size_t place,
     uint8_t *mail = book + place_at(place);
     if (mail[3] != desk + 1)
         return NOT_YOURS;
-    if (phase_full(book, &s, desk))
+    if (phase_full(book, desk))
         return PHASE_FULL;
     size_t free_slot = slot_for(book, keep);
     if (free_slot == SLOTS)
@@ -650,26 +676,28 @@ uint8_t plain_write(const uint8_t *book, size_t book_len, size_t slot, uint8_t *
     return DONE;
 }
 
-static int stamp_reads(const struct setup *s, const uint8_t *stamp, size_t stamp_len)
+static int stamp_reads(const struct setup *s, const size_t *limits, const uint8_t *stamp,
+                       size_t stamp_len)
 {
     return stamp_len == STAMP_BYTES && has_mark(stamp, stamp_mark) && stamp[2] < s->desks
-        && stamp[3] == s->desks && pairs_in_range(s, stamp + ROW_AT);
+        && stamp[3] == s->desks && pairs_in_range(s, limits, stamp + ROW_AT);
 }
 
-/* Two records as they were lent, and the setup that they are to be read under. */
+/* Two records as they were lent, and the setup and limits that they are to be read under. */
 struct labels {
     struct setup setup;
+    const size_t *limits;
     const uint8_t *first, *second;
-    size_t first_len, second_len;
+    size_t limits_len, first_len, second_len;
 };
 
 /* The reasons that every call off the book shares; DONE where none holds. */
 static uint8_t labels_refused(const struct labels *l, size_t answer_len)
 {
-    if (!setup_permitted(&l->setup))
+    if (!setup_permitted(&l->setup) || !limits_permitted(&l->setup, l->limits, l->limits_len))
         return BAD_SETUP;
-    if (!stamp_reads(&l->setup, l->first, l->first_len)
-        || !stamp_reads(&l->setup, l->second, l->second_len))
+    if (!stamp_reads(&l->setup, l->limits, l->first, l->first_len)
+        || !stamp_reads(&l->setup, l->limits, l->second, l->second_len))
         return BAD_STAMP;
     return answer_len < 1 ? NO_ROOM : DONE;
 }
@@ -705,33 +733,33 @@ static uint8_t labels_compare(const struct labels *l, uint8_t *answer, size_t an
     return DONE;
 }
 
-uint8_t plain_label_before(size_t desks, size_t phases, size_t clocks, size_t seat_lag,
-                           size_t shelf_lag, size_t back, size_t ahead, const uint8_t *first,
-                           size_t first_len, const uint8_t *second, size_t second_len,
-                           uint8_t *answer, size_t answer_len)
+uint8_t plain_label_before(size_t desks, size_t phases, const size_t *limits, size_t limits_len,
+                           size_t seat_lag, size_t shelf_lag, size_t back, size_t ahead,
+                           const uint8_t *first, size_t first_len, const uint8_t *second,
+                           size_t second_len, uint8_t *answer, size_t answer_len)
 {
-    struct labels l = {{desks, phases, clocks, seat_lag, shelf_lag, back, ahead},
-                       first, second, first_len, second_len};
+    struct labels l = {{desks, phases, seat_lag, shelf_lag, back, ahead}, limits, first, second,
+                       limits_len, first_len, second_len};
     return labels_before(&l, answer, answer_len);
 }
 
-uint8_t plain_label_compare(size_t desks, size_t phases, size_t clocks, size_t seat_lag,
-                            size_t shelf_lag, size_t back, size_t ahead, const uint8_t *first,
-                            size_t first_len, const uint8_t *second, size_t second_len,
-                            uint8_t *answer, size_t answer_len)
+uint8_t plain_label_compare(size_t desks, size_t phases, const size_t *limits, size_t limits_len,
+                            size_t seat_lag, size_t shelf_lag, size_t back, size_t ahead,
+                            const uint8_t *first, size_t first_len, const uint8_t *second,
+                            size_t second_len, uint8_t *answer, size_t answer_len)
 {
-    struct labels l = {{desks, phases, clocks, seat_lag, shelf_lag, back, ahead},
-                       first, second, first_len, second_len};
+    struct labels l = {{desks, phases, seat_lag, shelf_lag, back, ahead}, limits, first, second,
+                       limits_len, first_len, second_len};
     return labels_compare(&l, answer, answer_len);
 }
 
-uint8_t plain_label_newest(size_t desks, size_t phases, size_t clocks, size_t seat_lag,
-                           size_t shelf_lag, size_t back, size_t ahead, const uint8_t *first,
-                           size_t first_len, const uint8_t *second, size_t second_len,
-                           uint8_t *answer, size_t answer_len)
+uint8_t plain_label_newest(size_t desks, size_t phases, const size_t *limits, size_t limits_len,
+                           size_t seat_lag, size_t shelf_lag, size_t back, size_t ahead,
+                           const uint8_t *first, size_t first_len, const uint8_t *second,
+                           size_t second_len, uint8_t *answer, size_t answer_len)
 {
-    struct labels l = {{desks, phases, clocks, seat_lag, shelf_lag, back, ahead},
-                       first, second, first_len, second_len};
+    struct labels l = {{desks, phases, seat_lag, shelf_lag, back, ahead}, limits, first, second,
+                       limits_len, first_len, second_len};
     uint8_t found, refused = labels_compare(&l, &found, answer_len);
     if (refused != DONE)
         return refused;

@@ -17,12 +17,13 @@ enum newest { NEITHER, FIRST, SECOND };
 
 enum {
     BOOK_BYTES = 1456, RECORD_BYTES = 20, ROW_BYTES = 16, STAMP_BYTES = 20, ODDS_BYTES = 2,
-    SEATS_AT = 16, MAIL_AT = 176, SHELF_AT = 816, ROW_AT = 4,
+    SEATS_AT = 16, MAIL_AT = 176, SHELF_AT = 816, LIMIT_AT = 3, ROW_AT = 4,
     SEATS = 8, PLACES = 32, SLOTS = 32
 };
 
-uint8_t plain_start(uint8_t *book, size_t book_len, size_t desks, size_t phases, size_t clocks,
-                    size_t seat_lag, size_t shelf_lag, size_t back, size_t ahead);
+uint8_t plain_start(uint8_t *book, size_t book_len, size_t desks, size_t phases,
+                    const size_t *limits, size_t limits_len, size_t seat_lag, size_t shelf_lag,
+                    size_t back, size_t ahead);
 uint8_t plain_local(uint8_t *book, size_t book_len, size_t desk, size_t keep, uint8_t *stamp,
                     size_t stamp_len, uint8_t *slot, size_t slot_len);
 uint8_t plain_send(uint8_t *book, size_t book_len, size_t desk, size_t to, size_t keep,
@@ -44,17 +45,17 @@ uint8_t plain_picture(const uint8_t *book, size_t book_len, const size_t *slots,
 uint8_t plain_show(const uint8_t *book, size_t book_len, size_t slot, uint8_t *row, size_t row_len);
 uint8_t plain_write(const uint8_t *book, size_t book_len, size_t slot, uint8_t *target,
                     size_t target_len);
-uint8_t plain_label_before(size_t desks, size_t phases, size_t clocks, size_t seat_lag,
-                           size_t shelf_lag, size_t back, size_t ahead, const uint8_t *first,
-                           size_t first_len, const uint8_t *second, size_t second_len,
-                           uint8_t *answer, size_t answer_len);
-uint8_t plain_label_compare(size_t desks, size_t phases, size_t clocks, size_t seat_lag,
-                            size_t shelf_lag, size_t back, size_t ahead, const uint8_t *first,
-                            size_t first_len, const uint8_t *second, size_t second_len,
-                            uint8_t *answer, size_t answer_len);
-uint8_t plain_label_newest(size_t desks, size_t phases, size_t clocks, size_t seat_lag,
-                           size_t shelf_lag, size_t back, size_t ahead, const uint8_t *first,
-                           size_t first_len, const uint8_t *second, size_t second_len,
-                           uint8_t *answer, size_t answer_len);
+uint8_t plain_label_before(size_t desks, size_t phases, const size_t *limits, size_t limits_len,
+                           size_t seat_lag, size_t shelf_lag, size_t back, size_t ahead,
+                           const uint8_t *first, size_t first_len, const uint8_t *second,
+                           size_t second_len, uint8_t *answer, size_t answer_len);
+uint8_t plain_label_compare(size_t desks, size_t phases, const size_t *limits, size_t limits_len,
+                            size_t seat_lag, size_t shelf_lag, size_t back, size_t ahead,
+                            const uint8_t *first, size_t first_len, const uint8_t *second,
+                            size_t second_len, uint8_t *answer, size_t answer_len);
+uint8_t plain_label_newest(size_t desks, size_t phases, const size_t *limits, size_t limits_len,
+                           size_t seat_lag, size_t shelf_lag, size_t back, size_t ahead,
+                           const uint8_t *first, size_t first_len, const uint8_t *second,
+                           size_t second_len, uint8_t *answer, size_t answer_len);
 
 #endif

@@ -17,13 +17,14 @@
 #define JOIN(prefix, name) JOIN_NAMES(prefix, name)
 #define CALL(name) JOIN(PREFIX, name)
 
-#define SETUP 8, 255, 255, 100, 200, 100, 100
+#define SETUP DESKS, 255, limits, DESKS, 100, 200, 100, 100
 
 enum {
     BOOK = 1456, STAMP = 20, ROW = 16, ODDS = 2, DESKS = 8, PLACES_AND_SLOTS = 32, RESET_EVERY = 5
 };
 
 static uint8_t book[BOOK], prepared[BOOK], stamp[STAMP], row[ROW], odds[ODDS], learnt, slot, value;
+static const size_t limits[DESKS] = {255, 255, 255, 255, 255, 255, 255, 255};
 static const size_t first_slots[DESKS] = {0, 1, 2, 3, 4, 5, 6, 7};
 static uint8_t first_label[STAMP], second_label[STAMP];
 static const uint32_t first_vector[VECTOR_DESKS] = {3, 1, 4, 1, 5, 9, 2, 6};

@@ -5,16 +5,24 @@
 #include <string.h>
 #include <unistd.h>
 
-/* A picture may have any number of slots, but its line has room for 14. */
-enum { LINE_MOST = 64, BLOCK_BYTES = 4096, NUMBERS_MOST = 14, ANY = NUMBERS_MOST + 1 };
+/* A start may have any number of limits and a picture any number of slots, but their lines have room for
+ * 14 numbers. A start has six others: two before its limits, four after them. */
+enum { LINE_MOST = 64, BLOCK_BYTES = 4096, NUMBERS_MOST = 14, BESIDE_LIMITS = 6, BEFORE_LIMITS = 2 };
 
 enum verb { START, LOCAL, SEND, RECEIVE, RESET, DROP, DISCARD, ASK_BEFORE, COMPARE, PICTURE, VERBS };
 
-static const struct { const char *name; size_t length, numbers; } verbs[VERBS] = {
-    [START] = {"start", 5, 7},     [LOCAL] = {"local", 5, 2},       [SEND] = {"send", 4, 3},
-    [RECEIVE] = {"receive", 7, 3}, [RESET] = {"reset", 5, 2},       [DROP] = {"drop", 4, 1},
-    [DISCARD] = {"discard", 7, 1}, [ASK_BEFORE] = {"before", 6, 2}, [COMPARE] = {"compare", 7, 2},
-    [PICTURE] = {"picture", 7, ANY}
+/* The bytes of each name, and the fewest and the most numbers that may follow it. */
+static const struct { const char *name; size_t length, fewest, most; } verbs[VERBS] = {
+    [START] = {"start", 5, BESIDE_LIMITS, NUMBERS_MOST},
+    [LOCAL] = {"local", 5, 2, 2},
+    [SEND] = {"send", 4, 3, 3},
+    [RECEIVE] = {"receive", 7, 3, 3},
+    [RESET] = {"reset", 5, 2, 2},
+    [DROP] = {"drop", 4, 1, 1},
+    [DISCARD] = {"discard", 7, 1, 1},
+    [ASK_BEFORE] = {"before", 6, 2, 2},
+    [COMPARE] = {"compare", 7, 2, 2},
+    [PICTURE] = {"picture", 7, 0, NUMBERS_MOST}
 };
 
 static const char *const relation_words[] = {
@@ -95,9 +103,8 @@ static int read_number(const char *text, size_t *number)
 static int has_length(enum verb verb, size_t bytes)
 {
     size_t of_verb = verbs[verb].length;
-    if (verbs[verb].numbers == ANY)
-        return bytes >= of_verb && bytes <= LINE_MOST && (bytes - of_verb) % 4 == 0;
-    return bytes == of_verb + 4 * verbs[verb].numbers;
+    return bytes >= of_verb + 4 * verbs[verb].fewest && bytes <= of_verb + 4 * verbs[verb].most
+        && (bytes - of_verb) % 4 == 0;
 }
 
 static int read_verb(const char *text, size_t bytes, struct call *call)
@@ -122,6 +129,20 @@ static size_t wish(const struct call *call)
     return call->number[call->numbers - 1];
 }
 
+static size_t limits_in(const struct call *call)
+{
+    return call->numbers - BESIDE_LIMITS;
+}
+
+/* What the line's length does not tell. A start of fewer than 2 desks or over 8 is left to the call. */
+static int numbers_fit(const struct call *call)
+{
+    size_t desks = call->number[0];
+    if (call->verb == START)
+        return desks < 2 || desks > SEATS || limits_in(call) == desks;
+    return !is_event(call->verb) || wish(call) <= 1;
+}
+
 static int read_call(const char *text, size_t bytes, struct call *call)
 {
     if (!read_verb(text, bytes, call))
@@ -130,7 +151,14 @@ static int read_call(const char *text, size_t bytes, struct call *call)
     for (size_t i = 0; i < call->numbers; i++, next += 4)
         if (!read_number(next, &call->number[i]))
             return 0;
-    return !is_event(call->verb) || wish(call) <= 1;
+    return numbers_fit(call);
+}
+
+static uint8_t make_start(const struct call *c)
+{
+    const size_t *n = c->number, *limits = n + BEFORE_LIMITS, *after = limits + limits_in(c);
+    return plain_start(book, sizeof book, n[0], n[1], limits, limits_in(c), after[0], after[1],
+                       after[2], after[3]);
 }
 
 /* Verbs with nothing to print beside their answer. */
@@ -139,7 +167,7 @@ static uint8_t make_quiet_call(const struct call *c)
     const size_t *n = c->number;
     switch (c->verb) {
     case START:
-        return plain_start(book, sizeof book, n[0], n[1], n[2], n[3], n[4], n[5], n[6]);
+        return make_start(c);
     case DROP:
         return plain_drop(book, sizeof book, n[0]);
     default:

@@ -15,17 +15,23 @@ LINES_A_START = 1_000
 LINES_A_TIDE = 200
 PLACES = SLOTS = 32
 
+# Desks, phases, the limit of each desk, lags and reach, as a start line has them.
 SETUPS = [
-    (8, 255, 255, 100, 200, 100, 100),
-    (2, 3, 40, 1, 2, 1, 1),
-    (8, 64, 32, 20, 40, 30, 30),
-    (3, 5, 25, 2, 4, 2, 2),
-    (5, 16, 10, 5, 12, 8, 8),
-    (4, 9, 200, 3, 6, 4, 5),
-    (8, 255, 20, 127, 254, 127, 127),
-    (6, 31, 8, 10, 20, 16, 15),
+    (8, 255, [255, 255, 255, 255, 255, 255, 255, 255], 100, 200, 100, 100),
+    (2, 3, [50, 30], 1, 2, 1, 1),
+    (8, 64, [32, 16, 64, 24, 28, 48, 36, 20], 20, 40, 30, 30),
+    (3, 5, [25, 40, 15], 2, 4, 2, 2),
+    (5, 16, [10, 6, 14, 20, 8], 5, 12, 8, 8),
+    (4, 9, [200, 255, 100, 30], 3, 6, 4, 5),
+    (8, 255, [20, 21, 22, 23, 24, 25, 26, 10], 127, 254, 127, 127),
+    (6, 31, [8, 16, 6, 12, 7, 9], 10, 20, 16, 15),
 ]
-REFUSED_SETUP = (8, 256, 255, 100, 200, 100, 100)
+REFUSED_SETUPS = [
+    (8, 256, [255, 255, 255, 255, 255, 255, 255, 255], 100, 200, 100, 100),
+    (8, 255, [255, 255, 255, 255, 255, 255, 255, 256], 100, 200, 100, 100),
+    (3, 5, [25, 1, 15], 2, 4, 2, 2),
+    (9, 5, [], 2, 4, 2, 2),
+]
 
 EVENTS = ("local", "send", "receive", "reset")
 
@@ -41,6 +47,7 @@ BAD_LINES = [
     "", "local", "local 7 000", "local 0007 000", "local  000 000", "local 000 000 ",
     " local 000 000", "Local 000 000", "send 000 001", "send 000 001 002",
     "receive 000,001 000", "show 000", "write 000", "keep 000", "start 008 255 255",
+    "start 002 003 050 001 002 001 001", "start 002 003 050 030 010 001 002 001 001",
     "drop 00x", "drop\t000", "compare 000 001" + 60 * " ", "x" * 64, "x" * 65,
     "before 000 001\r", "picture 000 1", "picture 000  001", "picture" + 15 * " 000",
 ]
@@ -50,13 +57,13 @@ class Book:
     """What the next lines are chosen by: the rows, what waits and what is kept."""
 
     def __init__(self, setup):
-        self.desks, _, self.clocks, self.seat_lag, self.shelf_lag = setup[:5]
+        self.desks, _, self.limits, self.seat_lag, self.shelf_lag = setup[:5]
         self.rows = [[(0, 0)] * self.desks for _ in range(self.desks)]
         self.mail = {}
         self.shelf = {}
 
     def phase_full(self, desk):
-        return desk < self.desks and self.rows[desk][desk][1] == self.clocks - 1
+        return desk < self.desks and self.rows[desk][desk][1] == self.limits[desk] - 1
 
     def no_slot(self, keep):
         return keep and len(self.shelf) == SLOTS
@@ -210,6 +217,11 @@ def in_text(verb, numbers):
     return " ".join([verb, *(f"{number:03}" for number in numbers)])
 
 
+def start_line(setup):
+    desks, phases, limits, *lags_and_reach = setup
+    return in_text("start", [desks, phases, *limits, *lags_and_reach])
+
+
 def one_line(choose, book, tide):
     if choose.random() < 0.025:
         return choose.choice(BAD_LINES)
@@ -225,12 +237,13 @@ def listing():
     """Each stretch opens with a start and closes with one that is refused."""
     choose = random.Random(1456)
     for number in range(LINES):
+        stretch = number // LINES_A_START
         if number % LINES_A_START == 0:
-            setup = SETUPS[number // LINES_A_START % len(SETUPS)]
+            setup = SETUPS[stretch % len(SETUPS)]
             book = Book(setup)
-            yield in_text("start", setup)
+            yield start_line(setup)
         elif number % LINES_A_START == LINES_A_START - 1:
-            yield in_text("start", REFUSED_SETUP)
+            yield start_line(REFUSED_SETUPS[stretch % len(REFUSED_SETUPS)])
         else:
             tide = "emptying" if number // LINES_A_TIDE % 2 else "filling"
             yield one_line(choose, book, tide)
