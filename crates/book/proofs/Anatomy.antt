@@ -16,7 +16,8 @@
 --   label-bytes, target-bytes the bytes of the stamp record; a target of 22 bytes that it is written into
 --   lengths-read, bytes-read  the record reads, and not with a byte less or more, nor with one of thirteen changes of a byte
 --   limits-read               the receipt reads under some limits and not under others
---   seats-asked, mail-asked, slots-asked   which limits a seat may have; a clock is held to its own column's limit, whosever row it is in
+--   seats-asked               which limits a seat may have
+--   seat-rows-asked, mail-asked, slots-asked   a clock is held to its own column's limit, whosever row it is in
 --   record-numbers            BadStamp, of such a record
 --   length-1455, length-1456, length-1457   BadBook, and not, by the length of a book
 use Prim.Native.Nat.{ℕ, zero, suc, _+_, _*_}
@@ -160,6 +161,13 @@ pub seats-asked : map (λ (t : ℕ × ℕ). seatOk lagOf (sheet (t .0) (record {
     ≡ false ∷ false ∷ true ∷ false ∷ true ∷ true ∷ false ∷ true ∷ false ∷ false ∷ true ∷ false ∷ []
 unfolding seatOk seatLimit seatRest seatNear rowOk columnOk pairOk rowZero columnZero limitOk within allOf allBelow
 seats-asked = refl
+
+-- of desk 0, then of desk 1, both started
+pub seat-rows-asked : map (λ (t : ℕ × Row). seatOk lagOf (sheet (t .0) (record { tagA = 1; tagB = 2; row = t .1 })) (t .0))
+    ((0, clocks 3 1) ∷ (0, clocks 4 1) ∷ (0, clocks 3 2) ∷ (1, clocks 3 1) ∷ (1, clocks 4 1) ∷ (1, clocks 3 2) ∷ [])
+    ≡ true ∷ false ∷ false ∷ true ∷ false ∷ false ∷ []
+unfolding seatOk seatLimit seatRest seatNear rowOk columnOk pairOk limitOk within allOf allBelow
+seat-rows-asked = refl
 
 -- from desk 0 to desk 1, then from desk 1 to desk 0
 pub mail-asked : map (λ (t : ℕ × (ℕ × Row)). mailOk lagOf (sheet 8 (record { tagA = t .0; tagB = t .1 .0; row = t .1 .1 })) 8)

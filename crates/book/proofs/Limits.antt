@@ -15,7 +15,7 @@ use Rattle.tools.proofs.Lists.{length-tab, tab-at}
 use Rattle.ring.specs.Phases.{lagOf}
 use Rattle.rules.specs.Setups.{limit, limitOk, inRange, related, limited, permits}
 use Rattle.rules.proofs.Setups.{ranged}
-use Rattle.book.specs.Layout.{records, seats, tagBSpot, spot, fields, limitsOf, setupOf}
+use Rattle.book.specs.Layout.{records, seats, tagBSpot, spot, limitsOf, setupOf}
 use Rattle.book.specs.Sound.{seatLimit, seatOk, recordOk, recordSound}
 
 module _ (b : List ℕ) where

@@ -2,7 +2,7 @@
 -- Assumes nothing.
 use Rattle.ring.specs.Phases.{lagOf}
 use Rattle.rules.specs.Setups.{Setup, inRange, related}
-use Rattle.book.specs.Layout.{records, limitsOf, setupOf}
+use Rattle.book.specs.Layout.{records}
 use Rattle.book.specs.Sound.{headOk, recordSound, soundBy}
 use Rattle.book.proofs.Limits.{permits-told}
 use Rattle.tools.specs.Tests.{allOf, allBelow}
