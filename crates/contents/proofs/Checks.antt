@@ -9,7 +9,7 @@ use lib.Dec.{ltb, leb, eqb}
 use lib.ListN.{length, set, length-set}
 use lib.Seq.{getD-set-same, getD-set-other}
 use borrow.Author.Count.{below-none, below-more}
-use borrow.Author.Tests.{eq-eqb, ne-eqb, ltb-true, ltb-false, le-ltb, leb-true, leb-false, le-leb, lt-leb}
+use borrow.Author.Tests.{eq-eqb, ltb-true, le-ltb, leb-true, leb-false, le-leb, lt-leb}
 use Rattle.ring.specs.Phases.{lagOf}
 use Rattle.ring.proofs.Ring.{lag-below, lag-down, lag-round}
 use Rattle.tools.specs.Tests.{pick, allOf}
@@ -19,7 +19,7 @@ use Rattle.rules.specs.Setups.{limit}
 use Rattle.book.specs.Layout.{tagASpot, tagBSpot, shelfFrom, rowSpot, phaseSpot, clockSpot, fields, setupOf, spot}
 use Rattle.book.specs.Sound.{pairOk, columnOk, rowZero, mailOk, slotOk, recordOk}
 use Rattle.book.proofs.Limits.{limit-told}
-use Rattle.contents.specs.Checks.{phasesFrom, ownFrom, clocksFrom, phasesIn, ownIn, clocksIn, Limits, Ready}
+use Rattle.contents.specs.Checks.{phasesFrom, ownFrom, clocksFrom, phasesIn, ownIn, clocksIn, Columns, Ready}
 
 le-by : (a b c d : ℕ) → (a ≤ b → c ≤ d) → (b < a → d < c) → leb a b ≡ leb c d
 le-by a b c d f g =
@@ -37,11 +37,11 @@ lag-sum p own v B = go (leb v own) refl
         let h : own < v = leb-false v own e in
         rw (lag-round p own v h) (le-by (own + p) (v + B) (own + p - v) B (λ s. omega arith) (λ s. omega arith))
 
--- the limits that are filled from the front
-pub limits-none : (b l : List ℕ) → length l ≡ 24 → Limits b 0 l
-limits-none b l e = record { size = e; phases = below-none _; own = below-none _; clocks = below-none _ }
+-- the columns that are filled from the front
+pub columns-none : (b l : List ℕ) → length l ≡ 24 → Columns b 0 l
+columns-none b l e = record { size = e; phases = below-none _; own = below-none _; clocks = below-none _ }
 
-module _ (b l : List ℕ) (c x y z : ℕ) (h : Limits b c l) (q : c < 8) where
+module _ (b l : List ℕ) (c x y z : ℕ) (h : Columns b c l) (q : c < 8) where
   abbrev one : List ℕ
   one = set l (phasesFrom + c) x
 
@@ -54,11 +54,11 @@ module _ (b l : List ℕ) (c x y z : ℕ) (h : Limits b c l) (q : c < 8) where
       getD-set-other two (clocksFrom + c) i z 0 o ∙ getD-set-other one (ownFrom + c) i y 0 m
       ∙ getD-set-other l (phasesFrom + c) i x 0 n
 
-  pub limits-more : x ≡ pick (ltb c (setupOf b .desks)) (setupOf b .phases) 1
+  pub columns-more : x ≡ pick (ltb c (setupOf b .desks)) (setupOf b .phases) 1
       → y ≡ pick (ltb c (setupOf b .desks)) (fields b .at c .row c .phase) 0
       → z ≡ pick (ltb c (setupOf b .desks)) (fields b .at c .tagB) 1
-      → Limits b (c + 1) (set two (clocksFrom + c) z)
-  limits-more e f g =
+      → Columns b (c + 1) (set two (clocksFrom + c) z)
+  columns-more e f g =
       record {
         size = simp length-set (h .size);
         phases =
@@ -115,7 +115,7 @@ pub column-is : (b l : List ℕ) (B k j v t : ℕ) (r : Bool) → Ready b l → 
     → r ≡ allOf (ltb v (phasesIn l j) ∷ ltb t (clocksIn l j) ∷ leb (lagOf (phasesIn l j) (ownIn l j) v) B ∷ [])
     → r ≡ columnOk lagOf (fields b) B k j
 column-is b l B k j v t r h q x y z =
-    rw (x, y, h .limits .phases j q, h .limits .clocks j q, h .limits .own j q) at z ∙ column-at b B k j q
+    rw (x, y, h .columns .phases j q, h .columns .clocks j q, h .columns .own j q) at z ∙ column-at b B k j q
 
 -- a free place and a free slot are asked the same
 pub free-is : (b : List ℕ) (k : ℕ) → 8 ≤ k → byte b (spot k tagASpot) ≡ 0

@@ -8,7 +8,7 @@ ghost use Rattle.ring.specs.Phases.{lagOf};
 ghost use Rattle.tools.specs.Tests.{pick, allOf};
 ghost use Rattle.book.specs.Layout.{bookSize, records, shelfFrom, mailFrom, seats, fields};
 ghost use Rattle.book.specs.Sound.{columnZero, rowOk, rowZero, seatLimit, seatRest, seatNear, recordOk};
-ghost use Rattle.contents.specs.Checks.{Limits, Ready, Used};
+ghost use Rattle.contents.specs.Checks.{Columns, Ready, Used};
 
 // What the pairs of the desks are held to stands in one array, desk by desk in each of its three parts: first how many phases
 // each desk has.
@@ -31,20 +31,20 @@ fn of_desk(desks: usize, desk: usize, number: u8, none: u8) -> u8
 }
 
 // Where there is no desk 0 alone is in range, and does not lag.
-pub fn limits_of(book: &[u8]) -> [u8; 24]
+pub fn columns_of(book: &[u8]) -> [u8; 24]
     requires { ⌜ length (now book) ≡ bookSize ⌝ }
-    ensures { λ r. ⌜ Limits (now (book .entry)) seats r ⌝ }
+    ensures { λ r. ⌜ Columns (now (book .entry)) seats r ⌝ }
 {
     let d = parts::desks_of(book);
-    let mut limits = [0u8; 24];
+    let mut columns = [0u8; 24];
     let mut j: usize = 0;
     while j < parts::SEATS {
-        limits[PHASES + j] = of_desk(d, j, book[parts::PHASES_AT], 1);
-        limits[OWN + j] = of_desk(d, j, parts::phase_at(book, j, j), 0);
-        limits[CLOCKS + j] = of_desk(d, j, parts::tag_b(book, j), 1);
+        columns[PHASES + j] = of_desk(d, j, book[parts::PHASES_AT], 1);
+        columns[OWN + j] = of_desk(d, j, parts::phase_at(book, j, j), 0);
+        columns[CLOCKS + j] = of_desk(d, j, parts::tag_b(book, j), 1);
         j += 1;
     }
-    limits
+    columns
 }
 
 // What is added to own before the phase is subtracted: nothing where own is at least the phase, otherwise the ring's phases.
@@ -66,9 +66,9 @@ fn pair_ok(own: u8, phases: u8, clocks: u8, bound: usize, phase: u8, clock: u8) 
     (phase < phases) & ((clock < clocks) & (moved <= tools::wide(phase) + bound))
 }
 
-// No pair ends the loop early: so all eight are compared at once. The limits are lent: a copy for each record would be waited for.
-fn row_ok(book: &[u8], limits: &[u8; 24], bound: usize, k: usize) -> bool
-    requires { ⌜ Ready (now book) (now limits) ⌝ }
+// No pair ends the loop early: so all eight are compared at once. The columns are lent: a copy for each record would be waited for.
+fn row_ok(book: &[u8], columns: &[u8; 24], bound: usize, k: usize) -> bool
+    requires { ⌜ Ready (now book) (now columns) ⌝ }
     requires { ⌜ (k < records) × (bound ≤ 510) ⌝ }
     ensures { λ r. ⌜ r ≡ rowOk lagOf (fields (now (book .entry))) bound k ⌝ }
 {
@@ -79,9 +79,9 @@ fn row_ok(book: &[u8], limits: &[u8; 24], bound: usize, k: usize) -> bool
         let clock = parts::clock_at(book, k, j);
         ok = ok
             & pair_ok(
-                limits[OWN + j],
-                limits[PHASES + j],
-                limits[CLOCKS + j],
+                columns[OWN + j],
+                columns[PHASES + j],
+                columns[CLOCKS + j],
                 bound,
                 phase,
                 clock,
@@ -125,13 +125,13 @@ fn seat_rest(book: &[u8], k: usize) -> bool
     }
 }
 
-fn seat_near(book: &[u8], limits: &[u8; 24], k: usize) -> bool
-    requires { ⌜ Ready (now book) (now limits) ⌝ }
+fn seat_near(book: &[u8], columns: &[u8; 24], k: usize) -> bool
+    requires { ⌜ Ready (now book) (now columns) ⌝ }
     requires { ⌜ k < records ⌝ }
     ensures { λ r. ⌜ r ≡ seatNear lagOf (fields (now (book .entry))) k ⌝ }
 {
     if k < parts::desks_of(book) {
-        row_ok(book, limits, tools::wide(parts::seat_lag_of(book)), k)
+        row_ok(book, columns, tools::wide(parts::seat_lag_of(book)), k)
     } else {
         true
     }
@@ -151,13 +151,13 @@ fn seat_limit(book: &[u8], k: usize) -> bool
     }
 }
 
-pub fn seat_ok(book: &[u8], limits: &[u8; 24], k: usize) -> bool
-    requires { ⌜ Ready (now book) (now limits) ⌝ }
+pub fn seat_ok(book: &[u8], columns: &[u8; 24], k: usize) -> bool
+    requires { ⌜ Ready (now book) (now columns) ⌝ }
     requires { ⌜ k < seats ⌝ }
     ensures { λ r. ⌜ r ≡ recordOk lagOf (fields (now (book .entry))) k ⌝ }
 {
     (parts::tag_a(book, k) <= parts::STARTED)
-        & (seat_limit(book, k) & (seat_rest(book, k) & seat_near(book, limits, k)))
+        & (seat_limit(book, k) & (seat_rest(book, k) & seat_near(book, columns, k)))
 }
 
 // A place or slot that is free. Its second tag is tested apart, so that its row is one compare of sixteen bytes.
@@ -172,8 +172,8 @@ pub fn free_ok(book: &[u8], k: usize) -> bool
     row_zero(book, k)
 }
 
-pub fn mail_ok(book: &[u8], limits: &[u8; 24], k: usize) -> bool
-    requires { ⌜ Ready (now book) (now limits) ⌝ }
+pub fn mail_ok(book: &[u8], columns: &[u8; 24], k: usize) -> bool
+    requires { ⌜ Ready (now book) (now columns) ⌝ }
     requires { ⌜ (mailFrom ≤ k) × (k < shelfFrom) × Used (now book) k ⌝ }
     ensures { λ r. ⌜ r ≡ recordOk lagOf (fields (now (book .entry))) k ⌝ }
 {
@@ -183,15 +183,15 @@ pub fn mail_ok(book: &[u8], limits: &[u8; 24], k: usize) -> bool
     (tools::wide(a) <= d)
         & ((1 <= b)
             & ((tools::wide(b) <= d)
-                & ((a != b) & row_ok(book, limits, 2 * tools::wide(parts::seat_lag_of(book)), k))))
+                & ((a != b) & row_ok(book, columns, 2 * tools::wide(parts::seat_lag_of(book)), k))))
 }
 
-pub fn slot_ok(book: &[u8], limits: &[u8; 24], k: usize) -> bool
-    requires { ⌜ Ready (now book) (now limits) ⌝ }
+pub fn slot_ok(book: &[u8], columns: &[u8; 24], k: usize) -> bool
+    requires { ⌜ Ready (now book) (now columns) ⌝ }
     requires { ⌜ (shelfFrom ≤ k) × (k < records) × Used (now book) k ⌝ }
     ensures { λ r. ⌜ r ≡ recordOk lagOf (fields (now (book .entry))) k ⌝ }
 {
     (parts::tag_b(book, k) == parts::FILLER)
         & ((tools::wide(parts::tag_a(book, k)) <= parts::desks_of(book))
-            & row_ok(book, limits, parts::shelf_lag_of(book), k))
+            & row_ok(book, columns, parts::shelf_lag_of(book), k))
 }

@@ -1,4 +1,4 @@
 -- Stamp records, read and written, and what the calls off the book ask and hand back.
 pub mod Records
-pub mod Limits
+pub mod Counts
 pub mod Asked

@@ -13,8 +13,8 @@ ghost use Rattle.rules.specs.Replies.{rowBytes, rowOf, toldSays, comparedSays};
 ghost use Rattle.book.specs.Layout.{recordSize, seats};
 ghost use Rattle.book.specs.Answers.{beforeOf, compareOf};
 ghost use Rattle.book.specs.Stamps.{writeStamp, labelOf, pairReads, readStamp};
-ghost use Rattle.labels.specs.Limits;
-ghost use Rattle.labels.specs.Limits.{countRow, Counts, rowReads, headReads};
+ghost use Rattle.labels.specs.Counts;
+ghost use Rattle.labels.specs.Counts.{countRow, Counts, rowReads, headReads};
 ghost use Rattle.labels.specs.Records.{readAs, readSays, rowBeside, newestOf, HandedBack};
 ghost use Rattle.labels.specs.Asked.{ownerRead, refusalIn, Both, Between, WayRead, Asked};
 use comparing::Way;
@@ -43,7 +43,7 @@ pub struct Reading {
 
 // So many, as far as the numbers of a byte go.
 fn capped(count: usize) -> u16
-    ensures { λ r. ⌜ r ≡ Limits.capped count ⌝ }
+    ensures { λ r. ⌜ r ≡ Counts.capped count ⌝ }
 {
     if 256 < count {
         return 256;

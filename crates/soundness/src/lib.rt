@@ -19,65 +19,65 @@ fn marked(book: &[u8], k: usize, ok: bool) -> bool
         & ((parts::byte_at(book, k, 1) == parts::second_mark(k)) & ok)
 }
 
-fn place_sound(book: &[u8], limits: &[u8; 24], k: usize) -> bool
-    requires { ⌜ Ready (now book) (now limits) ⌝ }
+fn place_sound(book: &[u8], columns: &[u8; 24], k: usize) -> bool
+    requires { ⌜ Ready (now book) (now columns) ⌝ }
     requires { ⌜ (mailFrom ≤ k) × (k < shelfFrom) ⌝ }
     ensures { λ r. ⌜ r ≡ recordSound lagOf (now (book .entry)) k ⌝ }
 {
     if parts::tag_a(book, k) == parts::FREE {
         return marked(book, k, contents::free_ok(book, k));
     }
-    marked(book, k, contents::mail_ok(book, limits, k))
+    marked(book, k, contents::mail_ok(book, columns, k))
 }
 
-fn slot_sound(book: &[u8], limits: &[u8; 24], k: usize) -> bool
-    requires { ⌜ Ready (now book) (now limits) ⌝ }
+fn slot_sound(book: &[u8], columns: &[u8; 24], k: usize) -> bool
+    requires { ⌜ Ready (now book) (now columns) ⌝ }
     requires { ⌜ (shelfFrom ≤ k) × (k < records) ⌝ }
     ensures { λ r. ⌜ r ≡ recordSound lagOf (now (book .entry)) k ⌝ }
 {
     if parts::tag_a(book, k) == parts::FREE {
         return marked(book, k, contents::free_ok(book, k));
     }
-    marked(book, k, contents::slot_ok(book, limits, k))
+    marked(book, k, contents::slot_ok(book, columns, k))
 }
 
 // Each kind of record has its own loop: so its mark is a constant, and no record is asked for its kind.
-fn seats_sound(book: &[u8], limits: &[u8; 24]) -> bool
-    requires { ⌜ Ready (now book) (now limits) ⌝ }
+fn seats_sound(book: &[u8], columns: &[u8; 24]) -> bool
+    requires { ⌜ Ready (now book) (now columns) ⌝ }
     ensures { λ r. ⌜ r ≡ allBelow mailFrom (recordSound lagOf (now (book .entry))) ⌝ }
 {
     let mut ok = true;
     let mut k: usize = 0;
     while k < parts::MAIL {
-        ok = ok & marked(book, k, contents::seat_ok(book, limits, k));
+        ok = ok & marked(book, k, contents::seat_ok(book, columns, k));
         k += 1;
     }
     ok
 }
 
-fn mail_sound(book: &[u8], limits: &[u8; 24], seats: bool) -> bool
-    requires { ⌜ Ready (now book) (now limits) ⌝ }
+fn mail_sound(book: &[u8], columns: &[u8; 24], seats: bool) -> bool
+    requires { ⌜ Ready (now book) (now columns) ⌝ }
     requires { ⌜ seats ≡ allBelow mailFrom (recordSound lagOf (now book)) ⌝ }
     ensures { λ r. ⌜ r ≡ allBelow shelfFrom (recordSound lagOf (now (book .entry))) ⌝ }
 {
     let mut ok = seats;
     let mut k: usize = parts::MAIL;
     while k < parts::SHELF {
-        ok = ok & place_sound(book, limits, k);
+        ok = ok & place_sound(book, columns, k);
         k += 1;
     }
     ok
 }
 
-fn shelf_sound(book: &[u8], limits: &[u8; 24], mail: bool) -> bool
-    requires { ⌜ Ready (now book) (now limits) ⌝ }
+fn shelf_sound(book: &[u8], columns: &[u8; 24], mail: bool) -> bool
+    requires { ⌜ Ready (now book) (now columns) ⌝ }
     requires { ⌜ mail ≡ allBelow shelfFrom (recordSound lagOf (now book)) ⌝ }
     ensures { λ r. ⌜ r ≡ allBelow records (recordSound lagOf (now (book .entry))) ⌝ }
 {
     let mut ok = mail;
     let mut k: usize = parts::SHELF;
     while k < parts::RECORDS {
-        ok = ok & slot_sound(book, limits, k);
+        ok = ok & slot_sound(book, columns, k);
         k += 1;
     }
     ok
@@ -87,10 +87,10 @@ fn records_sound(book: &[u8]) -> bool
     requires { ⌜ length (now book) ≡ bookSize ⌝ }
     ensures { λ r. ⌜ r ≡ allBelow records (recordSound lagOf (now (book .entry))) ⌝ }
 {
-    let limits = contents::limits_of(book);
-    let seats = seats_sound(book, &limits);
-    let mail = mail_sound(book, &limits, seats);
-    shelf_sound(book, &limits, mail)
+    let columns = contents::columns_of(book);
+    let seats = seats_sound(book, &columns);
+    let mail = mail_sound(book, &columns, seats);
+    shelf_sound(book, &columns, mail)
 }
 
 fn spare_zero(book: &[u8]) -> bool

@@ -15,10 +15,10 @@ use Rattle.contents.proofs.row_ok.Statement.{statement}
 use Rattle.contents.proofs.row_ok.Tie as tie
 
 abbrev Inv-loop : tie.InvT-loop
-Inv-loop book limits bound k ok₀ j₀ ok j = (j ≤ 8) × (ok ≡ allBelow j (columnOk lagOf (fields book) bound k))
+Inv-loop book columns bound k ok₀ j₀ ok j = (j ≤ 8) × (ok ≡ allBelow j (columnOk lagOf (fields book) bound k))
 
 abbrev μ-loop : tie.MeasureT-loop
-μ-loop book limits bound k ok₀ j₀ ok j = 8 - j
+μ-loop book columns bound k ok₀ j₀ ok j = 8 - j
 
 loop-holds : tie.Need-loop-holds Inv-loop μ-loop
 loop-holds c = (search needs, and-none true _)
@@ -30,7 +30,7 @@ loop-again c =
     let v = c .before .before .before .before .before .phase-at .ensures in
     let t = c .before .before .before .before .clock-at .ensures in
     let e =
-    column-is (s .args .book .now) (s .args .limits .now) (s .args .bound) (s .args .k) (h .j) _ _ _ (s .pre .0) (omega arith) v t
+    column-is (s .args .book .now) (s .args .columns .now) (s .args .bound) (s .args .k) (h .j) _ _ _ (s .pre .0) (omega arith) v t
     (c .pair-ok .ensures) in
     (omega arith, and-more true _ (h .j) _ _ (h .inv .1) (λ _. e))
 

@@ -2,7 +2,7 @@
 -- Assumes nothing.
 use borrow.Author.Tests.{lt-ltb, le-ltb}
 use borrow.Author.Needs.{needs}
-use Rattle.labels.specs.Limits.{capped}
+use Rattle.labels.specs.Counts.{capped}
 use Rattle.labels.proofs.capped.Statement.{statement}
 use Rattle.labels.proofs.capped.Tie as tie
 

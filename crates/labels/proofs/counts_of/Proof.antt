@@ -7,8 +7,8 @@ use native.Mathlib.Omega.{arith}
 use borrow.Author.Needs.{needs}
 use Rattle.tools.specs.Lists.{tab}
 use Rattle.rules.specs.Replies.{rowByte, rowBytes}
-use Rattle.labels.specs.Limits.{capped, countRow}
-use Rattle.labels.proofs.Limits.{counts-more, counts-all}
+use Rattle.labels.specs.Counts.{capped, countRow}
+use Rattle.labels.proofs.Counts.{counts-more, counts-all}
 use Rattle.labels.proofs.counts_of.Statement.{statement}
 use Rattle.labels.proofs.counts_of.Tie as tie
 

@@ -2,7 +2,7 @@
 -- Assumes nothing.
 use borrow.Author.Needs.{needs}
 use Rattle.tools.specs.Tests.{allOf}
-use Rattle.labels.specs.Limits.{headReads}
+use Rattle.labels.specs.Counts.{headReads}
 use Rattle.labels.proofs.head_reads.Statement.{statement}
 use Rattle.labels.proofs.head_reads.Tie as tie
 

@@ -9,7 +9,7 @@ use Rattle.rules.specs.Setups.{Setup, setupWith, permits}
 use Rattle.rules.specs.Labels.{reads, ownerIn}
 use Rattle.book.specs.Stamps.{readStamp}
 use Rattle.labels.specs.Asked.{ownerRead, refusalIn}
-use Rattle.labels.proofs.Limits.{row-size}
+use Rattle.labels.proofs.Counts.{row-size}
 use Rattle.labels.proofs.Answered.{who-reads, who-refused, unread}
 use Rattle.labels.proofs.owners_of.Statement.{statement}
 use Rattle.labels.proofs.owners_of.Tie as tie

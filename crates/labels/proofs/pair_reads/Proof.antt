@@ -5,7 +5,7 @@ use native.Mathlib.Omega.{arith}
 use borrow.Author.Needs.{needs}
 use Rattle.book.specs.Layout.{rowSpot, phaseSpot, clockSpot}
 use Rattle.labels.proofs.Records.{label-pair}
-use Rattle.labels.proofs.Limits.{pair-counted}
+use Rattle.labels.proofs.Counts.{pair-counted}
 use Rattle.labels.proofs.pair_reads.Statement.{statement}
 use Rattle.labels.proofs.pair_reads.Tie as tie
 

@@ -6,7 +6,7 @@ use borrow.Author.Needs.{needs}
 use Rattle.rules.specs.Setups.{setupWith}
 use Rattle.book.specs.Stamps.{readStamp}
 use Rattle.labels.specs.Asked.{ownerRead}
-use Rattle.labels.proofs.Limits.{row-size}
+use Rattle.labels.proofs.Counts.{row-size}
 use Rattle.labels.proofs.Answered.{who-size, refused-reading, told-reading}
 use Rattle.labels.proofs.read.Statement.{statement}
 use Rattle.labels.proofs.read.Tie as tie

@@ -1,7 +1,7 @@
 -- `labels::row_reads` meets its contract.
 -- Assumes nothing.
 use Prim.Native.Nat.{_-_, _≤_}
-use mathlib.Core.Path.{_≡_, refl}
+use mathlib.Core.Path.{_≡_}
 use mathlib.Core.Bool.{true, _&&_}
 use native.Mathlib.Omega.{arith}
 use borrow.Author.Tests.{eq-eqb, ne-eqb}
@@ -10,7 +10,7 @@ use Rattle.tools.specs.Tests.{allBelow}
 use Rattle.tools.proofs.Tests.{and-none, and-more}
 use Rattle.rules.specs.Setups.{Setup}
 use Rattle.book.specs.Stamps.{pairReads, labelOf}
-use Rattle.labels.specs.Limits.{Counts, rowReads}
+use Rattle.labels.specs.Counts.{Counts, rowReads}
 use Rattle.labels.proofs.row_reads.Statement.{statement}
 use Rattle.labels.proofs.row_reads.Tie as tie
 

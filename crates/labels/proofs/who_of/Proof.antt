@@ -6,8 +6,8 @@ use Prim.Native.Nat.{ℕ}
 use mathlib.Core.Logic.{⊎-elim}
 use native.Mathlib.Omega.{arith}
 use Rattle.tools.proofs.Tests.{and-false}
-use Rattle.labels.specs.Limits.{rowReads, headReads}
-use Rattle.labels.proofs.Limits.{who-is}
+use Rattle.labels.specs.Counts.{rowReads, headReads}
+use Rattle.labels.proofs.Counts.{who-is}
 use Rattle.labels.proofs.who_of.Statement.{statement}
 use Rattle.labels.proofs.who_of.Tie as tie
 

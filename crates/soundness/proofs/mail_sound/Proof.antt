@@ -14,10 +14,10 @@ use Rattle.soundness.proofs.mail_sound.Statement.{statement}
 use Rattle.soundness.proofs.mail_sound.Tie as tie
 
 abbrev Inv-loop : tie.InvT-loop
-Inv-loop book limits seats ok₀ k₀ ok k = (mailFrom ≤ k) × (k ≤ shelfFrom) × (ok ≡ allBelow k (recordSound lagOf book))
+Inv-loop book columns seats ok₀ k₀ ok k = (mailFrom ≤ k) × (k ≤ shelfFrom) × (ok ≡ allBelow k (recordSound lagOf book))
 
 abbrev μ-loop : tie.MeasureT-loop
-μ-loop book limits seats ok₀ k₀ ok k = shelfFrom - k
+μ-loop book columns seats ok₀ k₀ ok k = shelfFrom - k
 
 loop-holds : tie.Need-loop-holds Inv-loop μ-loop
 loop-holds c = (omega arith, omega arith, c .before .pre .1)

@@ -14,10 +14,10 @@ use Rattle.soundness.proofs.seats_sound.Statement.{statement}
 use Rattle.soundness.proofs.seats_sound.Tie as tie
 
 abbrev Inv-loop : tie.InvT-loop
-Inv-loop book limits ok₀ k₀ ok k = (k ≤ mailFrom) × (ok ≡ allBelow k (recordSound lagOf book))
+Inv-loop book columns ok₀ k₀ ok k = (k ≤ mailFrom) × (ok ≡ allBelow k (recordSound lagOf book))
 
 abbrev μ-loop : tie.MeasureT-loop
-μ-loop book limits ok₀ k₀ ok k = mailFrom - k
+μ-loop book columns ok₀ k₀ ok k = mailFrom - k
 
 loop-holds : tie.Need-loop-holds Inv-loop μ-loop
 loop-holds c = (search needs, and-none true _)

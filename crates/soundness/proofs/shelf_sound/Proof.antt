@@ -14,10 +14,10 @@ use Rattle.soundness.proofs.shelf_sound.Statement.{statement}
 use Rattle.soundness.proofs.shelf_sound.Tie as tie
 
 abbrev Inv-loop : tie.InvT-loop
-Inv-loop book limits mail ok₀ k₀ ok k = (shelfFrom ≤ k) × (k ≤ records) × (ok ≡ allBelow k (recordSound lagOf book))
+Inv-loop book columns mail ok₀ k₀ ok k = (shelfFrom ≤ k) × (k ≤ records) × (ok ≡ allBelow k (recordSound lagOf book))
 
 abbrev μ-loop : tie.MeasureT-loop
-μ-loop book limits mail ok₀ k₀ ok k = records - k
+μ-loop book columns mail ok₀ k₀ ok k = records - k
 
 loop-holds : tie.Need-loop-holds Inv-loop μ-loop
 loop-holds c = (omega arith, omega arith, c .before .pre .1)

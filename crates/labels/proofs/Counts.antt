@@ -24,7 +24,7 @@ use Rattle.rules.proofs.RowBytes.{row-phase, row-clock, rows-alike}
 use Rattle.book.proofs.Rows.{set-pair}
 use Rattle.book.specs.Stamps.{labelOf, pairReads, readOk, readStamp}
 use Rattle.labels.specs.declared.Owner.the-variants.{Of, Refused}
-use Rattle.labels.specs.Limits.{capped, countRow, Counts, rowReads, headReads}
+use Rattle.labels.specs.Counts.{capped, countRow, Counts, rowReads, headReads}
 use Rattle.labels.specs.Asked.{ownerRead}
 use Rattle.labels.proofs.Records.{Clauses, read-clauses, clauses-read}
 
