@@ -37,13 +37,13 @@ fn way_of(book: &[u8], first: usize, second: usize) -> Way
     let owner = tools::wide(owner_of(book, first));
     let e = parts::SHELF + first;
     let f = parts::SHELF + second;
-    let phases = parts::phases_of(book);
+    let last = parts::last_phase(book);
     let own = parts::phase_at(book, owner, owner);
     let e_phase = parts::phase_at(book, e, owner);
     let f_phase = parts::phase_at(book, f, owner);
     Way {
-        up: ring::lag(own, e_phase, phases),
-        down: ring::lag(own, f_phase, phases),
+        up: ring::lag(own, e_phase, last),
+        down: ring::lag(own, f_phase, last),
         from: parts::clock_at(book, e, owner),
         to: parts::clock_at(book, f, owner),
     }

@@ -15,6 +15,10 @@
 --   heads-asked               a header, and not with one of five changes of a byte
 --   label-bytes, target-bytes the bytes of the stamp record; a target of 22 bytes that it is written into
 --   lengths-read, bytes-read  the record reads, and not with a byte less or more, nor with one of thirteen changes of a byte
+--   ringed P A                a setup of two desks with P phases, A the lag of a kept stamp; headed y, the bytes of its book's front, P byte y
+--   rings-written, rings-told the byte of each P; the P that each byte tells
+--   rings-asked               which P bytes a permitted setup has
+--   phases-asked, phases-read which phases a pair may have on the full ring and on one of 255, in a book and in a record
 --   limits-read               the receipt reads under some limits and not under others
 --   seats-asked               which limits a seat may have
 --   seat-rows-asked, mail-asked, slots-asked   a clock is held to its own column's limit, whosever row it is in
@@ -37,7 +41,7 @@ use Rattle.rules.specs.Model.{Row, zeros, idle, reachBack}
 use Rattle.rules.specs.Calls.{Book, Call, start, on, call}
 use Rattle.rules.specs.Labels.{reads, beforeOff, compareOff}
 use Rattle.rules.specs.Replies.{rowByte}
-use Rattle.book.specs.Layout.{Record, Fields, headByte, mark0, mark1, markedByte, byteOf, layout, setupOf}
+use Rattle.book.specs.Layout.{Record, Fields, phasesByte, headByte, mark0, mark1, markedByte, byteOf, layout, setupOf}
 use Rattle.book.specs.Codec.{encode}
 use Rattle.book.specs.Stamps.{writeStamp, pairReads, readOk, readStamp, filled}
 use Rattle.book.specs.Sound.{pairOk, columnOk, rowOk, columnZero, rowZero, seatLimit, seatRest, seatNear, seatOk}
@@ -99,11 +103,11 @@ pub record Bytes : Type 0 where
   pub size : length (encode book) ≡ 1456
 
 pub book-bytes : Bytes
-unfolding layout tab byteOf headByte mark0 mark1 markedByte rowByte
+unfolding layout tab byteOf headByte phasesByte mark0 mark1 markedByte rowByte
 book-bytes = record { head = refl; seats = refl; places = refl; slots = refl; size = refl }
 
 pub setup-read : setupOf (encode book) ≡ setup
-unfolding layout tab byteOf headByte mark0 mark1 markedByte rowByte
+unfolding layout tab byteOf headByte phasesByte mark0 mark1 markedByte rowByte
 setup-read = refl
 
 pub heads-asked : map (λ (t : ℕ × ℕ). headOk (set head (t .0) (t .1))) ((0, 0x42) ∷ (0, 0x4B) ∷ (1, 0x42) ∷ (4, 77) ∷ (9, 1) ∷ (15, 1) ∷ [])
@@ -128,6 +132,46 @@ kept = 0x53 ∷ 0x54 ∷ 2 ∷ 3 ∷ 4 ∷ 3 ∷ 4 ∷ 3 ∷ 4 ∷ 3 ∷ 0 ∷ 0
 pub lengths-read : map (λ r. reads (readStamp X r)) (kept ∷ take 19 kept ∷ (kept ++ 0 ∷ []) ∷ []) ≡ true ∷ false ∷ false ∷ []
 unfolding readStamp readOk allOf allBelow pairReads
 lengths-read = refl
+
+abbrev ringed : ℕ → ℕ → Setup
+ringed P A = record { desks = 2; phases = P; limits = 4 ∷ 2 ∷ []; seatLag = 1; shelfLag = A; back = 1; ahead = 1 }
+
+abbrev headed : ℕ → List ℕ
+headed y = 0x42 ∷ 0x4B ∷ 2 ∷ y ∷ 0 ∷ 1 ∷ 1 ∷ 1 ∷ 1 ∷ replicate 7 0 ++ unstarted 4 ++ unstarted 2
+
+pub rings-written : map (λ P. headByte (ringed P 1) 3) (3 ∷ 254 ∷ 255 ∷ 256 ∷ []) ≡ 3 ∷ 254 ∷ 255 ∷ 0 ∷ []
+unfolding headByte phasesByte
+rings-written = refl
+
+pub rings-told : map (λ y. setupOf (headed y)) (0 ∷ 3 ∷ 255 ∷ []) ≡ ringed 256 1 ∷ ringed 3 1 ∷ ringed 255 1 ∷ []
+unfolding phasesByte tab
+rings-told = refl
+
+pub rings-asked : map (λ y. permits (setupOf (headed y))) (0 ∷ 1 ∷ 2 ∷ 3 ∷ 255 ∷ []) ≡ true ∷ false ∷ false ∷ true ∷ true ∷ []
+unfolding phasesByte tab permits inRange related limited limitOk within allOf allBelow
+rings-asked = refl
+
+-- by P, the bound, the own phase and the phase: the last phase of a byte, and across the seam
+pub phases-asked : map
+    (λ (t : (ℕ × ℕ) × (ℕ × ℕ)). pairOk lagOf (ringed (t .0 .0) 1) (t .0 .1) (t .1 .0) 0 (record { phase = t .1 .1; clock = 0 }))
+    (((256, 0), (255, 255))
+    ∷ ((256, 1), (0, 255))
+    ∷ ((256, 0), (0, 255))
+    ∷ ((256, 255), (0, 1))
+    ∷ ((256, 254), (0, 1))
+    ∷ ((255, 0), (255, 255))
+    ∷ ((255, 1), (0, 254))
+    ∷ ((255, 1), (0, 255))
+    ∷ [])
+    ≡ true ∷ true ∷ false ∷ true ∷ false ∷ false ∷ true ∷ false ∷ []
+unfolding pairOk allOf
+phases-asked = refl
+
+pub phases-read : map (λ (t : ℕ × ℕ). reads (readStamp (ringed (t .0) 1) (0x53 ∷ 0x54 ∷ 1 ∷ 2 ∷ t .1 ∷ 3 ∷ 0 ∷ 1 ∷ replicate 12 0)))
+    ((256, 0) ∷ (256, 254) ∷ (256, 255) ∷ (255, 254) ∷ (255, 255) ∷ (0, 0) ∷ [])
+    ≡ true ∷ true ∷ true ∷ true ∷ false ∷ false ∷ []
+unfolding readStamp readOk allOf allBelow pairReads
+phases-read = refl
 
 -- the mark, the owner, D, a phase and a clock, and the filler
 pub bytes-read : map (λ (t : ℕ × ℕ). reads (readStamp X (set kept (t .0) (t .1))))

@@ -31,10 +31,10 @@ module _ (s : List ℕ) (h : sound s ≡ true) where
   pub mail-row : (p j : ℕ) → p < 32 → j < 8 → rowAt s (mailFrom + p) j ≡ rowIn (tablesOf s .mail p) j
   mail-row p j lp lj = row-told (mailFrom + p) j (omega arith) lj ∙ ap (λ (r : Record). r .row j) (record-mail (setupOf s) (tablesOf s) p lp)
 
-  on-ring : 0 < byte s 3
+  on-ring : 0 < setupOf s .phases
   on-ring = let p = permitted (setupOf s) (sound-setup s h) .mailed in omega arith
 
-  fits-below : (B : ℕ) (r : Row) (j : ℕ) → RowFits (setupOf s) (phases (tablesOf s)) B r → r j .phase < byte s 3
+  fits-below : (B : ℕ) (r : Row) (j : ℕ) → RowFits (setupOf s) (phases (tablesOf s)) B r → r j .phase < setupOf s .phases
   fits-below B r j f =
       ⊎-elim (λ (m : j < byte s 2). f j .0 m .phase)
       (λ (m : byte s 2 ≤ j).
@@ -57,13 +57,13 @@ module _ (s : List ℕ) (h : sound s ≡ true) where
       go none f = refl
       go (some w) f = f .row k .1 l
 
-  pub phase-below : (k j : ℕ) → k < records → j < 8 → byte s (spot k (rowSpot + phaseSpot j)) < byte s 3
+  pub phase-below : (k j : ℕ) → k < records → j < 8 → byte s (spot k (rowSpot + phaseSpot j)) < setupOf s .phases
   phase-below k j lk lj =
       let e : rowAt s k j .phase ≡ recordOf (setupOf s) (tablesOf s) k .row j .phase = ap (λ (q : Pair). q .phase) (row-told k j lk lj) in
-      let l = by-kind (λ k. recordOf (setupOf s) (tablesOf s) k .row j .phase < byte s 3) seat mail slot k lk in
+      let l = by-kind (λ k. recordOf (setupOf s) (tablesOf s) k .row j .phase < setupOf s .phases) seat mail slot k lk in
       omega arith
     where
-      seat : (i : ℕ) → i < 8 → recordOf (setupOf s) (tablesOf s) i .row j .phase < byte s 3
+      seat : (i : ℕ) → i < 8 → recordOf (setupOf s) (tablesOf s) i .row j .phase < setupOf s .phases
       seat i l =
           rw (record-seat (setupOf s) (tablesOf s) i l)
           (⊎-elim (λ (m : i < byte s 2). fits-below (byte s 5) (tablesOf s .seat i .row) j (fits .seats i m))
@@ -71,16 +71,16 @@ module _ (s : List ℕ) (h : sound s ≡ true) where
           let z : tablesOf s .seat i .row j .phase ≡ 0 = ap (λ (q : Seat). q .row j .phase) (fits .beyond i m) in
           omega (arith, z, on-ring)) (lt-or-le i (byte s 2)))
 
-      mail : (p : ℕ) → p < 32 → recordOf (setupOf s) (tablesOf s) (mailFrom + p) .row j .phase < byte s 3
+      mail : (p : ℕ) → p < 32 → recordOf (setupOf s) (tablesOf s) (mailFrom + p) .row j .phase < setupOf s .phases
       mail p l = rw (record-mail (setupOf s) (tablesOf s) p l) (go (tablesOf s .mail p) (fits .mail p))
         where
-          go : (o : Option Held) → Each (MailFits (setupOf s) (phases (tablesOf s)) p) o → rowIn o j .phase < byte s 3
+          go : (o : Option Held) → Each (MailFits (setupOf s) (phases (tablesOf s)) p) o → rowIn o j .phase < setupOf s .phases
           go none f = on-ring
           go (some w) f = fits-below (2 * byte s 5) (w .row) j (f .row)
 
-      slot : (p : ℕ) → p < 32 → recordOf (setupOf s) (tablesOf s) (shelfFrom + p) .row j .phase < byte s 3
+      slot : (p : ℕ) → p < 32 → recordOf (setupOf s) (tablesOf s) (shelfFrom + p) .row j .phase < setupOf s .phases
       slot p l = rw (record-slot (setupOf s) (tablesOf s) p l) (go (tablesOf s .shelf p) (fits .shelf p))
         where
-          go : (o : Option Held) → Each (SlotFits (setupOf s) (phases (tablesOf s)) p) o → rowIn o j .phase < byte s 3
+          go : (o : Option Held) → Each (SlotFits (setupOf s) (phases (tablesOf s)) p) o → rowIn o j .phase < setupOf s .phases
           go none f = on-ring
           go (some w) f = fits-below (byte s 6) (w .row) j (f .row)

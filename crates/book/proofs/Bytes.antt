@@ -2,12 +2,16 @@
 -- Assumes nothing.
 use Prim.Native.Nat.{ℕ, zero, suc, _+_, _-_, _/_, _%_, _<_, _≤_}
 use mathlib.Core.Path.{_≡_, refl, sym, ap, _∙_, subst}
+use mathlib.Core.Bool.{Bool, true, false}
 use mathlib.Core.List.{List}
 use mathlib.Core.Logic.{⊎-elim}
 use native.Mathlib.Omega.{arith}
-use borrow.Author.Tests.{lt-ltb, le-ltb, eq-eqb, ne-eqb}
+use native.Mathlib.Nat.{mod-eq-of-lt}
+use borrow.Author.Tests.{lt-ltb, le-ltb, eqb-true, eq-eqb, ne-eqb}
+use lib.Dec.{eqb}
 use lib.ListN.{take}
 use lib.Seq.{ext-getD}
+use Rattle.tools.specs.Tests.{pick}
 use Rattle.tools.specs.Lists.{byte, tab}
 use Rattle.tools.proofs.Tests.{lt-or-le, eq-or-ne}
 use Rattle.tools.proofs.Lists.{length-tab, tab-at, tab-same}
@@ -15,7 +19,7 @@ use Rattle.rules.specs.Setups.{Setup}
 use Rattle.rules.specs.Replies.{rowByte}
 use Rattle.rules.proofs.RowBytes.{row-phase, row-clock, row-alike}
 use Rattle.book.specs.Layout.{tagASpot, tagBSpot, bookSize, records, seats, rowSpot, phaseSpot, clockSpot}
-use Rattle.book.specs.Layout.{Record, Fields, spot, headByte, mark0, mark1, markedByte, recordByte, byteOf, layout, limitsOf, setupOf, rowAt}
+use Rattle.book.specs.Layout.{Record, Fields, spot, phasesByte, headByte, mark0, mark1, markedByte, recordByte, byteOf, layout, limitsOf, setupOf, rowAt}
 use Rattle.book.specs.Layout.{fields, Holds}
 
 -- the row that stands in the bytes
@@ -92,6 +96,29 @@ layout-holds f =
           sym (tab-at bookSize (byteOf f) (spot k c) (omega arith) ∙ rw (le-ltb (spot k c) 16 (omega arith), d, m));
     }
 
+-- P AND ITS BYTE: either tells the other
+pub phases-back : (n : ℕ) → phasesByte (phasesByte n) ≡ n
+unfolding phasesByte
+phases-back n = go (eqb n 256) (eqb n 0) refl refl
+  where
+    go : (t u : Bool) → eqb n 256 ≡ t → eqb n 0 ≡ u
+        → pick (eqb (pick t 0 (pick u 256 n)) 256) 0 (pick (eqb (pick t 0 (pick u 256 n)) 0) 256 (pick t 0 (pick u 256 n))) ≡ n
+    go true u e f = sym (eqb-true n 256 e)
+    go false true e f = sym (eqb-true n 0 f)
+    go false false e f = rw (e, f)
+
+-- the P that a byte tells, by the last phase, whose successor comes round to the byte
+pub phases-last : (y n : ℕ) → n < 256 → (n + 1) % 256 ≡ y → n + 1 ≡ phasesByte y
+unfolding phasesByte
+phases-last y n l e =
+    ⊎-elim (λ (m : n + 1 < 256).
+    let s : y ≡ n + 1 = sym e ∙ mod-eq-of-lt m in
+    rw (s, ne-eqb (n + 1) 256 (omega arith), ne-eqb (n + 1) 0 (omega arith)))
+    (λ (m : 256 ≤ n + 1).
+    let s : n + 1 ≡ 256 = omega arith in
+    let z : y ≡ 0 = sym e ∙ ap (λ k. k % 256) s in
+    rw (z, s)) (lt-or-le (n + 1) 256)
+
 -- the limits that fields tell: those of the desks in the seats' records
 abbrev pub limitsIn : Fields → List ℕ
 limitsIn f = take (f .setup .desks) (tab 0 seats (λ j. f .at j .tagB))
@@ -104,9 +131,10 @@ module _ (f : Fields) (b : List ℕ) (h : Holds f b) where
       let seen = tab-same seats (λ j. byte b (spot j tagBSpot)) (λ j. f .at j .tagB) (λ j l. sym (h .there j 3 (omega arith) (omega arith))) in
       let told : limitsOf b ≡ f .setup .limits
       = ap (λ (l : List ℕ). take (byte b 2) l) seen ∙ ap (λ n. take n (tab 0 seats (λ j. f .at j .tagB))) (sym (h .head 2 (omega arith))) ∙ e in
+      let ring = ap phasesByte (sym (h .head 3 (omega arith))) ∙ phases-back (f .setup .phases) in
       λ i. record {
         desks = sym (h .head 2 (omega arith)) i;
-        phases = sym (h .head 3 (omega arith)) i;
+        phases = ring i;
         limits = told i;
         seatLag = sym (h .head 5 (omega arith)) i;
         shelfLag = sym (h .head 6 (omega arith)) i;

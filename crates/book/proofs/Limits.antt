@@ -15,7 +15,7 @@ use Rattle.tools.proofs.Lists.{length-tab, tab-at}
 use Rattle.ring.specs.Phases.{lagOf}
 use Rattle.rules.specs.Setups.{limit, limitOk, inRange, related, limited, permits}
 use Rattle.rules.proofs.Setups.{ranged}
-use Rattle.book.specs.Layout.{records, seats, tagBSpot, spot, limitsOf, setupOf}
+use Rattle.book.specs.Layout.{records, seats, tagBSpot, spot, limitsOf, setupOf, fields}
 use Rattle.book.specs.Sound.{seatLimit, seatOk, recordOk, recordSound}
 
 module _ (b : List ℕ) where
@@ -30,17 +30,28 @@ module _ (b : List ℕ) where
       (rw (length-tab 0 seats (λ i. byte b (spot i tagBSpot))) few)
 
   -- seats in order have a limit in its range for each desk
+  seat-limited : allBelow records (recordSound lagOf b) ≡ true → (j : ℕ) → j < 8 → seatLimit (fields b) j ≡ true
+  unfolding recordSound recordOk seatOk
+  seat-limited h j l =
+      let r = each _ (all-at (recordSound lagOf b) records j (omega arith) h) 2 in
+      each _ (rw (recordOk, lt-ltb j 8 l) at r) 1
+
+  -- so where one has none, not all records are sound
+  pub limits-first : allBelow seats (seatLimit (fields b)) ≡ false → allBelow records (recordSound lagOf b) ≡ false
+  limits-first e = go (allBelow records (recordSound lagOf b)) refl
+    where
+      go : (t : Bool) → allBelow records (recordSound lagOf b) ≡ t → t ≡ false
+      go true h = sym (all-in (seatLimit (fields b)) seats (seat-limited h)) ∙ e
+      go false h = refl
+
   seats-limited : byte b 2 ≤ 8 → allBelow records (recordSound lagOf b) ≡ true → limited (setupOf b) ≡ true
-  unfolding limited recordSound recordOk seatOk seatLimit
+  unfolding limited seatLimit
   seats-limited few h =
       rw (limited, eq-eqb (length (limitsOf b)) (byte b 2) (limits-long few))
       (all-in (λ j. limitOk (limit (setupOf b) j)) (byte b 2) (λ j l. rw (limit-told j (omega arith) l) (at j l)))
     where
       at : (j : ℕ) → j < byte b 2 → limitOk (byte b (spot j tagBSpot)) ≡ true
-      at j l =
-          let r = each _ (all-at (recordSound lagOf b) records j (omega arith) h) 2 in
-          let s = each _ (rw (recordOk, lt-ltb j 8 (omega arith)) at r) 1 in
-          rw (seatLimit, lt-ltb j (byte b 2) l) at s
+      at j l = rw (seatLimit, lt-ltb j (byte b 2) l) at (seat-limited h j (omega arith))
 
   -- so the numbers alone are left to be asked
   pub permits-told : ((inRange (setupOf b) && related (setupOf b)) && allBelow records (recordSound lagOf b))

@@ -24,7 +24,7 @@ use Rattle.book.specs.Layout.{Fields, fields, setupOf, spot, mark0, mark
 use Rattle.book.specs.Sound.{pairOk, columnOk, rowOk, columnZero, rowZero, seatLimit, seatRest, seatNear, seatOk, mailOk, slotOk, recordOk}
 use Rattle.book.specs.Sound.{spareZero, headOk, recordSound, soundBy, sound}
 use Rattle.book.specs.Codec.{readRow, readSeat, readHeld, read}
-use Rattle.book.proofs.Bytes.{record-bytes, row-at}
+use Rattle.book.proofs.Bytes.{record-bytes, row-at, phases-back}
 
 module _ (b : List ℕ) (s : sound b ≡ true) where
   pub sound-size : length b ≡ bookSize
@@ -60,7 +60,7 @@ unfolding headOk headByte spareZero
 head-is b h zero l = sym (eqb-true _ _ (each _ h 0))
 head-is b h (suc zero) l = sym (eqb-true _ _ (each _ h 1))
 head-is b h (suc (suc zero)) l = refl
-head-is b h (suc (suc (suc zero))) l = refl
+head-is b h (suc (suc (suc zero))) l = phases-back (byte b 3)
 head-is b h (suc (suc (suc (suc zero)))) l = sym (eqb-true _ _ (each _ h 2))
 head-is b h (suc (suc (suc (suc (suc zero))))) l = refl
 head-is b h (suc (suc (suc (suc (suc (suc zero)))))) l = refl

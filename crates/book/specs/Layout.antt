@@ -16,6 +16,7 @@
 --   Record           the two tags and the row of a record
 --   Fields           the setup and the records
 --   spot k c         where byte c of record k stands
+--   phasesByte P     P as its byte in the header, and the P that such a byte tells: 0 and 256 stand for each other, any other for itself
 --   headByte X i     byte i of the header of a book with the setup X
 --   mark0, mark1     the mark of a record
 --   markedByte x y r c   byte c of a record of twenty bytes: the mark x, y, then the tags and the row of r
@@ -92,9 +93,13 @@ spareSize = 7
 abbrev pub spot : ℕ → ℕ → ℕ
 spot k c = headSize + recordSize * k + c
 
+-- a byte has no room for 256, and no ring has 0 phases
+unfoldable pub phasesByte : ℕ → ℕ
+phasesByte P = pick (eqb P 256) 0 (pick (eqb P 0) 256 P)
+
 unfoldable pub headByte : Setup → ℕ → ℕ
 headByte X i =
-    byte (bookMark0 ∷ bookMark1 ∷ X .desks ∷ X .phases ∷ 0 ∷ X .seatLag ∷ X .shelfLag ∷ X .back ∷ X .ahead ∷ []) i
+    byte (bookMark0 ∷ bookMark1 ∷ X .desks ∷ phasesByte (X .phases) ∷ 0 ∷ X .seatLag ∷ X .shelfLag ∷ X .back ∷ X .ahead ∷ []) i
 
 unfoldable pub mark0 : ℕ → ℕ
 mark0 k = pick (ltb k seats) 0x53 (pick (ltb k shelfFrom) 0x4D 0x53)
@@ -125,7 +130,7 @@ abbrev pub setupOf : List ℕ → Setup
 setupOf b =
     record {
       desks = byte b 2;
-      phases = byte b 3;
+      phases = phasesByte (byte b 3);
       limits = limitsOf b;
       seatLag = byte b 5;
       shelfLag = byte b 6;

@@ -21,7 +21,7 @@ fn head_of(s: SetupNumbers) -> [u8; 16]
         parts::BOOK_MARK0,
         parts::BOOK_MARK1,
         s.desks as u8,
-        s.phases as u8,
+        parts::phases_byte(s.phases),
         0,
         s.seatLag as u8,
         s.shelfLag as u8,

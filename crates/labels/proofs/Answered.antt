@@ -136,12 +136,13 @@ module _ (X : Setup) (a b : List ℕ) (j : ℕ) (h : Both X a b) (own : ownerIn 
           (shown-ahead X fair j (labelOf a .row) (labelOf b .row) (omega (arith, l, lag-is))
           ∙ ap (λ u. near X (labelOf a .row j .clock) (record { up = u; down = 0 })) lag-is)
 
-      pub way-back : X .ahead ≤ r
-          → WayRead X a b j (record { up = 0; down = X .phases - r; from = byte a c; to = byte b c })
-      way-back l =
-          between 0 (X .phases - r)
+      pub way-back : (down : ℕ) → down ≡ X .phases - r → X .ahead ≤ r
+          → WayRead X a b j (record { up = 0; down = down; from = byte a c; to = byte b c })
+      way-back down e l =
+          between 0 down
           (shown-back X fair j (labelOf a .row) (labelOf b .row) (omega (arith, l, lag-is))
-          ∙ ap (λ u. near X (labelOf a .row j .clock) (record { up = 0; down = X .phases - u })) lag-is)
+          ∙ ap (λ u. near X (labelOf a .row j .clock) (record { up = 0; down = X .phases - u })) lag-is
+          ∙ ap (λ u. near X (labelOf a .row j .clock) (record { up = 0; down = u })) (sym e))
 
 -- what the way asks, whatever the limits
 pub ready : (s : SetupNumbers) (l a b : List ℕ) (j : ℕ) → Both (setupWith s l) a b → ownerIn (readStamp (setupWith s l) a) ≡ j → Between s a b j
@@ -150,7 +151,7 @@ ready s l a b j h own =
     let p = permitted X (h .fair) in
     record {
       phases = omega arith;
-      ahead = omega arith;
+      ahead = (p .forth, omega arith);
       one = stamp-told X a (labelOf a) (one X a b j h own) .0 .size;
       two = stamp-told X b (labelOf b) (two X a b j h own) .0 .size;
       desk = eight X a b j h own;

@@ -42,8 +42,8 @@ pub record Both (X : Setup) (a b : List ℕ) : Type 0 where
   pub two : reads (readStamp X b) ≡ true
 
 pub record Between (s : SetupNumbers) (a b : List ℕ) (j : ℕ) : Type 0 where
-  pub phases : s .phases ≤ 255
-  pub ahead : s .ahead ≤ 255
+  pub phases : s .phases ≤ 256
+  pub ahead : (1 ≤ s .ahead) × (s .ahead ≤ 255)
   pub one : length a ≡ recordSize
   pub two : length b ≡ recordSize
   pub desk : j < seats

@@ -90,21 +90,14 @@ fn counts_of(setup: SetupNumbers, limits: &[usize]) -> [u16; 16]
     counts
 }
 
-// A byte as wide as a count.
-fn number(byte: u8) -> u16
-    ensures { λ r. ⌜ r ≡ byte ⌝ }
-{
-    byte as u16
-}
-
 fn pair_reads(counts: &[u16; 16], bytes: &[u8], j: usize) -> bool
     requires { ⌜ (length (now bytes) ≡ recordSize) × (j < seats) ⌝ }
     ensures { λ r. ⌜ ((X : Setup) → Counts X (now (counts .entry)) → r ≡ pairReads X j (labelOf (now (bytes .entry)) .row j)) ⌝ }
 {
     let phase = parts::phase_spot(j);
     let clock = parts::clock_spot(j);
-    (number(bytes[parts::ROW + phase]) < counts[phase])
-        & (number(bytes[parts::ROW + clock]) < counts[clock])
+    (tools::two_bytes(bytes[parts::ROW + phase]) < counts[phase])
+        & (tools::two_bytes(bytes[parts::ROW + clock]) < counts[clock])
 }
 
 // No pair ends the loop early: so all eight are compared at once.
@@ -193,11 +186,11 @@ fn way(setup: SetupNumbers, owner: u8, first: &[u8], second: &[u8]) -> Way
     let clock = parts::ROW + parts::clock_spot(desk);
     let from = first[clock];
     let to = second[clock];
-    let p = setup.phases as u8;
+    let last = (setup.phases - 1) as u8;
     let n = setup.ahead as u8;
     let first_phase = first[phase];
     let second_phase = second[phase];
-    let r = ring::lag(second_phase, first_phase, p);
+    let r = ring::lag(second_phase, first_phase, last);
     if r < n {
         return Way {
             up: r,
@@ -208,7 +201,7 @@ fn way(setup: SetupNumbers, owner: u8, first: &[u8], second: &[u8]) -> Way
     }
     Way {
         up: 0,
-        down: p - r,
+        down: last - r + 1,
         from: from,
         to: to,
     }

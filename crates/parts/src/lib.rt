@@ -1,11 +1,11 @@
 // The numbers of a book in its bytes, where each stands, its marks, one record written, and a lent buffer filled.
 ghost use mathlib.Core.Path.{_≡_};
-ghost use Prim.Native.Nat.{_<_, _≤_};
+ghost use Prim.Native.Nat.{_+_, _<_, _≤_};
 ghost use lib.ListN.{length};
 ghost use Rattle.tools.specs.Lists.{byte};
 ghost use Rattle.rules.specs.Setups.{setupWith};
 ghost use Rattle.book.specs.Layout.{bookSize, recordSize, rowSize, records, seats, phaseSpot, clockSpot};
-ghost use Rattle.book.specs.Layout.{fields, limitsOf, setupOf, mark0, mark1};
+ghost use Rattle.book.specs.Layout.{fields, limitsOf, setupOf, phasesByte, mark0, mark1};
 ghost use Rattle.book.specs.Layout;
 ghost use Rattle.book.specs.Stamps.{filled};
 use rules::SetupNumbers;
@@ -48,7 +48,7 @@ pub const BOOK_MARK1: u8 = 0x4B;
 // Behind it the setup numbers, a byte each.
 pub const DESKS_AT: usize = 2;
 
-pub const PHASES_AT: usize = 3;
+const PHASES_AT: usize = 3;
 
 // Filler, between P and M.
 pub const BLANK_AT: usize = 4;
@@ -106,7 +106,7 @@ pub fn numbers_of(book: &[u8]) -> SetupNumbers
 {
     SetupNumbers {
         desks: tools::wide(book[DESKS_AT]),
-        phases: tools::wide(book[PHASES_AT]),
+        phases: tools::wide(last_phase(book)) + 1,
         seatLag: tools::wide(book[SEAT_LAG_AT]),
         shelfLag: tools::wide(book[SHELF_LAG_AT]),
         back: tools::wide(book[BACK_AT]),
@@ -121,11 +121,23 @@ pub fn desks_of(book: &[u8]) -> usize
     tools::wide(book[DESKS_AT])
 }
 
-pub fn phases_of(book: &[u8]) -> u8
+// The last phase of the ring. It fits a byte where their number may not: the byte 0 tells 256 of them.
+pub fn last_phase(book: &[u8]) -> u8
     requires { ⌜ length (now book) ≡ bookSize ⌝ }
-    ensures { λ r. ⌜ r ≡ setupOf (now (book .entry)) .phases ⌝ }
+    ensures { λ r. ⌜ r + 1 ≡ setupOf (now (book .entry)) .phases ⌝ }
 {
-    book[PHASES_AT]
+    std::num::wrapping_sub_u8(book[PHASES_AT], 1)
+}
+
+// The header's byte for so many phases: 0 for 256 of them.
+pub fn phases_byte(phases: usize) -> u8
+    requires { ⌜ (1 ≤ phases) × (phases ≤ 256) ⌝ }
+    ensures { λ r. ⌜ r ≡ phasesByte phases ⌝ }
+{
+    if phases == 256 {
+        return 0;
+    }
+    phases as u8
 }
 
 pub fn seat_lag_of(book: &[u8]) -> u8
@@ -135,11 +147,11 @@ pub fn seat_lag_of(book: &[u8]) -> u8
     book[SEAT_LAG_AT]
 }
 
-pub fn shelf_lag_of(book: &[u8]) -> usize
+pub fn shelf_lag_of(book: &[u8]) -> u8
     requires { ⌜ length (now book) ≡ bookSize ⌝ }
     ensures { λ r. ⌜ r ≡ setupOf (now (book .entry)) .shelfLag ⌝ }
 {
-    tools::wide(book[SHELF_LAG_AT])
+    book[SHELF_LAG_AT]
 }
 
 pub fn byte_at(book: &[u8], k: usize, c: usize) -> u8

@@ -20,9 +20,10 @@ use lib.ListN.{length}
 use Rattle.tools.specs.Tests.{pick}
 use Rattle.tools.specs.Lists.{byte}
 use Rattle.ring.specs.Phases.{lagOf}
+use Rattle.ring.proofs.Ring.{lag-by-last}
 use Rattle.rules.specs.Model.{byIn, isOut, gapFrom, tooFar, chosen}
 use Rattle.rules.specs.Calls.{ringOf}
-use Rattle.book.specs.Layout.{shelfFrom, rowSpot, phaseSpot, spot, setupOf, rowAt}
+use Rattle.book.specs.Layout.{shelfFrom, setupOf, rowAt}
 use Rattle.book.specs.Numbers.{tablesOf}
 use Rattle.book.proofs.Below.{phase-below}
 use Rattle.asking.proofs.Slots.{slot-place}
@@ -72,17 +73,14 @@ module _ (s l t : List ℕ) (i k : ℕ) (p : Places s l t i k) where
     pub desk-eight : j < 8
     desk-eight = omega (arith, same, desk-below)
 
-    pub on-ring : (byte t (8 + i) < byte s 3) × (byte s (spot (shelfFrom + chosen l k) (rowSpot + phaseSpot j)) < byte s 3)
-    on-ring =
-        let d = desk-below in
-        let q = slot-at in
-        let o : rowAt s desk desk .phase < byte s 3 = phase-below s (p .ready .whole) desk desk (omega arith) d in
-        (omega (arith, own-at, o), phase-below s (p .ready .whole) (shelfFrom + chosen l k) j (omega arith) desk-eight)
+    on-ring : rowAt s (shelfFrom + chosen l k) j .phase < setupOf s .phases
+    on-ring = phase-below s (p .ready .whole) (shelfFrom + chosen l k) j (omega (arith, slot-at)) desk-eight
 
-    pub lag-at : (P v r : ℕ) → P ≡ setupOf s .phases → v ≡ rowAt s (shelfFrom + chosen l k) j .phase → r ≡ lagOf P (byte t (8 + i)) v
-        → r ≡ lagTo s l i k
-    lag-at P v r x y z =
-        z ∙ (λ u. lagOf (x u) (own-at u) ((y ∙ ap (λ d. rowAt s (shelfFrom + chosen l k) d .phase) same) u))
+    pub lag-at : (last v r : ℕ) → last + 1 ≡ setupOf s .phases → v ≡ rowAt s (shelfFrom + chosen l k) j .phase
+        → (v ≤ last → r ≡ lagOf (last + 1) (byte t (8 + i)) v) → r ≡ lagTo s l i k
+    lag-at last v r x y z =
+        lag-by-last (setupOf s .phases) last _ v r x (rw y on-ring) z
+        ∙ (λ u. lagOf (setupOf s .phases) (own-at u) ((y ∙ ap (λ d. rowAt s (shelfFrom + chosen l k) d .phase) same) u))
 
     -- the clocks decide where the lags are equal
     pub more-equal : (lag c : ℕ) (r : Bool) → lag ≡ lagTo s l i k → lag ≡ byte t (16 + i)

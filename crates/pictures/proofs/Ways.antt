@@ -17,7 +17,7 @@ use Rattle.ring.specs.Phases.{isLater}
 use Rattle.rules.specs.Model.{byIn, rowIn, reachBack, isOut, gapFrom, chosen}
 use Rattle.rules.specs.Setups.{Setup}
 use Rattle.rules.specs.Calls.{ringOf}
-use Rattle.rules.proofs.Setups.{permitted}
+use Rattle.rules.proofs.Setups.{permitted, ranged, permits-range}
 use Rattle.book.specs.Layout.{shelfFrom, setupOf, rowAt}
 use Rattle.book.specs.Sound.{sound}
 use Rattle.book.specs.Numbers.{tablesOf}
@@ -31,7 +31,7 @@ use Rattle.pictures.proofs.Reached.{band-near, later-if}
 -- how far the setup reaches, as it was read: ahead, and back, also from a reset
 pub reach-bytes : (s : List ℕ) (X : Setup) → X ≡ setupOf s → sound s ≡ true
     → ((1 ≤ X .ahead) × (X .ahead ≤ 255)) × ((1 ≤ X .back) × (X .back + 1 ≤ 255))
-reach-bytes s X same h = let p = permitted (setupOf s) (sound-setup s h) in rw same (omega arith)
+reach-bytes s X same h = let r = ranged (setupOf s) (permits-range (setupOf s) (sound-setup s h)) in rw same (omega arith)
 
 pub back-bytes : (X : Setup) (t : Bool) (r : ℕ) → r ≡ reachBack X t → (1 ≤ X .back) × (X .back + 1 ≤ 255) → (1 ≤ r) × (r ≤ 255)
 unfolding reachBack

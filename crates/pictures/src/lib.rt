@@ -91,7 +91,7 @@ fn from_of(book: &[u8], setup: SetupNumbers, slot: usize) -> From
     let desk = tools::wide(owner);
     let e = parts::SHELF + slot;
     let own = parts::phase_at(book, desk, desk);
-    let up = ring::lag(own, parts::phase_at(book, e, desk), parts::phases_of(book));
+    let up = ring::lag(own, parts::phase_at(book, e, desk), parts::last_phase(book));
     let clock = parts::clock_at(book, e, desk);
     From {
         owner: owner,
@@ -131,7 +131,7 @@ fn lag_to(book: &[u8], slots: &[usize], froms: &[u8; 48], i: usize, k: usize) ->
 {
     let desk = tools::wide(froms[i]);
     let phase = parts::phase_at(book, parts::SHELF + slots[k], desk);
-    ring::lag(froms[OWN + i], phase, parts::phases_of(book))
+    ring::lag(froms[OWN + i], phase, parts::last_phase(book))
 }
 
 // Whether such a lag is out of reach from the i-th stamp.

@@ -76,4 +76,4 @@ pub seat-lags : (s : List ℕ) (j k : ℕ) → j < 8 → k < 8
 seat-lags s j k lj lk =
     let o = ap (λ (q : Pair). q .phase) (own-at s j lj) in
     let v = ap (λ (r : Row). r j .phase) (seat-row s k lk) ∙ ap (λ (q : Pair). q .phase) (read-at (rowAt s k) j lj) in
-    sym (λ i. not (eqb k j) && eqb (lagOf (byte s 3) (o i) (v i)) (byte s 5))
+    sym (λ i. not (eqb k j) && eqb (lagOf (setupOf s .phases) (o i) (v i)) (byte s 5))

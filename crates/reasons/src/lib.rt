@@ -81,7 +81,7 @@ fn lag_at(book: &[u8], desk: usize, row: usize) -> usize
     tools::wide(ring::lag(
         parts::phase_at(book, desk, desk),
         parts::phase_at(book, row, desk),
-        parts::phases_of(book),
+        parts::last_phase(book),
     ))
 }
 
@@ -151,5 +151,10 @@ pub fn shelf_behind(book: &[u8], desk: usize) -> bool
     requires { ⌜ AtDesk (now book) desk ⌝ }
     ensures { λ r. ⌜ r ≡ behindFrom (now (book .entry)) desk (setupOf (now (book .entry)) .shelfLag) shelfFrom ⌝ }
 {
-    behind_from(book, desk, parts::shelf_lag_of(book), parts::SHELF)
+    behind_from(
+        book,
+        desk,
+        tools::wide(parts::shelf_lag_of(book)),
+        parts::SHELF,
+    )
 }

@@ -1,6 +1,6 @@
 -- Laws of the ring, for any P; the ring agrees with the line wherever the true difference is below P.
 -- Assumes nothing.
-use mathlib.Core.Path.{_≡_, refl, ap, sym, _∙_}
+use mathlib.Core.Path.{_≡_, refl, ap, sym, _∙_, subst}
 use mathlib.Core.Bool.{Bool, true, false, _&&_, true≢false}
 use mathlib.Core.Logic.{_⊎_, inl, inr, _↔_}
 use mathlib.Core.List.{[], _∷_, map}
@@ -100,6 +100,27 @@ ahead-at P x d o hx hd e = go (split P x d hx hd)
     go (inr (l, q)) =
         let s : o + P - x ≡ d = omega arith in
         rw s (mod-eq-of-lt hd)
+
+-- the lag by a sum: what v is added to comes round to own
+pub lag-by-sum : (P r own v : ℕ) → r < P → v < P → (r + v) % P ≡ own → r ≡ lagOf P own v
+lag-by-sum P r own v hr hv e =
+    let turned : v + r ≡ r + v = omega arith in
+    sym (lag-remainder P own v (subst (λ n. n < P) e (mod-lt (r + v) (omega arith))) hv
+    ∙ ahead-at P v r own hv hr (sym e ∙ ap (λ n. n % P) (sym turned)))
+
+-- where it comes round, a ring's lag is that of a longer one, Q, less the phases that the ring lacks, by a sum again
+pub lag-shorter : (P Q own v full less r : ℕ) → v < P → own < v → full ≡ lagOf Q own v → r < Q → (r + less) % Q ≡ full
+    → less + P ≡ Q → r ≡ lagOf P own v
+lag-shorter P Q own v full less r hv l e hr sum lacks =
+    let round = e ∙ lag-round Q own v l in
+    let up = lag-by-sum Q r full less hr (omega arith) sum in
+    let down = lag-down Q full less (omega (arith, round)) in
+    let short = lag-round P own v l in
+    omega (arith, round, up, down, short)
+
+-- a lag that is told by the last phase
+pub lag-by-last : (P last own v r : ℕ) → last + 1 ≡ P → v < P → (v ≤ last → r ≡ lagOf (last + 1) own v) → r ≡ lagOf P own v
+lag-by-last P last own v r e l h = h (omega arith) ∙ ap (λ n. lagOf n own v) e
 
 pub ring-lag : (P o v : ℕ) → v ≤ o → o - v < P → lagOf P (o % P) (v % P) ≡ o - v
 ring-lag P o v h l =
@@ -223,6 +244,26 @@ next-round P v e = ap (λ n. n % P) e ∙ mod-self P
 
 pub next-ahead : (P v : ℕ) → v + 1 < P → nextOf P v ≡ v + 1
 next-ahead P v l = mod-eq-of-lt l
+
+-- the next phase by that of a longer ring, Q: the same where it is on the ring
+pub next-shorter : (P Q v : ℕ) → P ≤ Q → v < P → nextOf Q v < P → nextOf P v ≡ nextOf Q v
+next-shorter P Q v q hv l = go (decLt (v + 1) P)
+  where
+    go : Dec (v + 1 < P) → nextOf P v ≡ nextOf Q v
+    go (yes m) = next-ahead P v m ∙ sym (next-ahead Q v (omega arith))
+    go (no m) = go′ (decLt (v + 1) Q)
+      where
+        go′ : Dec (v + 1 < Q) → nextOf P v ≡ nextOf Q v
+        go′ (yes n) = absurd (omega (arith, m, l, next-ahead Q v n))
+        go′ (no n) = let e : P ≡ Q = omega arith in ap (λ n. nextOf n v) e
+
+-- and 0 where it is not
+pub next-beyond : (P Q v : ℕ) → P ≤ Q → v < P → P ≤ nextOf Q v → nextOf P v ≡ 0
+next-beyond P Q v q hv l = go (decLt (v + 1) P)
+  where
+    go : Dec (v + 1 < P) → nextOf P v ≡ 0
+    go (yes m) = absurd (omega (arith, l, next-ahead Q v (omega arith)))
+    go (no m) = next-round P v (omega arith)
 
 -- a pair that is not later lags no less
 not-later-lag : (Z : Phases) (o : ℕ) (e f : Pair) → isLater Z o f e ≡ false → Z .lag o (e .phase) ≤ Z .lag o (f .phase)

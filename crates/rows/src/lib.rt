@@ -61,7 +61,7 @@ pub fn turned_row(book: &[u8], desk: usize) -> [u8; 16]
     with_pair(
         row_array(book, desk),
         desk,
-        ring::next(parts::phase_at(book, desk, desk), parts::phases_of(book)),
+        ring::next(parts::phase_at(book, desk, desk), parts::last_phase(book)),
         0,
     )
 }
@@ -75,7 +75,7 @@ fn taken_at(book: &[u8], held: usize, mailed: usize, desk: usize) -> Taken
     let own = parts::phase_at(book, desk, desk);
     ring::later(
         own,
-        parts::phases_of(book),
+        parts::last_phase(book),
         parts::phase_at(book, held, desk),
         parts::clock_at(book, held, desk),
         parts::phase_at(book, mailed, desk),

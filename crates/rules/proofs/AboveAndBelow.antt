@@ -50,12 +50,13 @@ held = false ∷ true ∷ []
 
 pub record Edges : Type 0 where
   pub D : map (λ D. permits (setup D 20 10 4 8 5 5)) (1 ∷ 2 ∷ 8 ∷ 9 ∷ []) ≡ ends
-  pub P : map (λ P. permits (setup 3 P 10 1 1 1 1)) (2 ∷ 3 ∷ 255 ∷ 256 ∷ []) ≡ ends
+  pub P : map (λ P. permits (setup 3 P 10 1 1 1 1)) (2 ∷ 3 ∷ 256 ∷ 257 ∷ []) ≡ ends
+  pub P-none : permits (setup 3 0 10 1 1 1 1) ≡ false
   pub L : map (λ L. permits (setup 3 20 L 4 8 5 5)) (1 ∷ 2 ∷ 255 ∷ 256 ∷ []) ≡ ends
   pub L-first : map (λ L. permits (setupBy 3 20 (L ∷ 4 ∷ 200 ∷ []) 4 8 5 5)) (1 ∷ 2 ∷ 255 ∷ 256 ∷ []) ≡ ends
   pub L-last : map (λ L. permits (setupBy 3 20 (200 ∷ 4 ∷ L ∷ []) 4 8 5 5)) (1 ∷ 2 ∷ 255 ∷ 256 ∷ []) ≡ ends
   pub M : map (λ M. permits (setup 3 255 10 M 200 5 5)) (0 ∷ 1 ∷ 127 ∷ 128 ∷ []) ≡ ends
-  pub A : map (λ A. permits (setup 3 255 10 1 A 5 5)) (0 ∷ 1 ∷ 254 ∷ 255 ∷ []) ≡ ends
+  pub A : map (λ A. permits (setup 3 256 10 1 A 5 5)) (0 ∷ 1 ∷ 255 ∷ 256 ∷ []) ≡ ends
   pub m : map (λ m. permits (setup 3 255 10 4 8 m 5)) (0 ∷ 1 ∷ 127 ∷ 128 ∷ []) ≡ ends
   pub n : map (λ n. permits (setup 3 255 10 4 8 5 n)) (0 ∷ 1 ∷ 127 ∷ 128 ∷ []) ≡ ends
   -- a limit for each desk, and no other
@@ -66,9 +67,10 @@ pub record Edges : Type 0 where
   pub P-M : map (λ P. permits (setup 3 P 10 50 60 5 5)) (100 ∷ 101 ∷ []) ≡ held
   pub P-A : map (λ P. permits (setup 3 P 10 4 70 5 5)) (70 ∷ 71 ∷ []) ≡ held
   pub P-mn : map (λ P. permits (setup 3 P 10 4 8 30 50)) (79 ∷ 80 ∷ []) ≡ held
-  -- and that on the smallest ring, and with the longest reach
+  -- and that on the smallest ring, with the longest reach, and where A asks for the full ring
   pub least : map (λ m. permits (setup 3 3 10 1 1 m 2)) (2 ∷ 1 ∷ []) ≡ held
   pub most : map (λ P. permits (setup 3 P 10 4 8 127 127)) (253 ∷ 254 ∷ []) ≡ held
+  pub full : map (λ P. permits (setup 3 P 10 127 255 127 127)) (255 ∷ 256 ∷ []) ≡ held
 
 pub edges : Edges
 unfolding permits inRange related limited limitOk allOf allBelow within
@@ -76,6 +78,7 @@ edges =
     record {
       D = refl;
       P = refl;
+      P-none = refl;
       L = refl;
       L-first = refl;
       L-last = refl;
@@ -90,6 +93,7 @@ edges =
       P-mn = refl;
       least = refl;
       most = refl;
+      full = refl;
     }
 
 abbrev pair : ℕ → ℕ → Pair

@@ -10,14 +10,14 @@ fn in_range(s: SetupNumbers) -> bool
     ensures { λ r. ⌜ r ≡ Setups.inRange (Setups.setupWith s []) ⌝ }
 {
     tools::within(2, 8, s.desks)
-        & (tools::within(3, 255, s.phases)
+        & (tools::within(3, 256, s.phases)
             & (tools::within(1, 127, s.seatLag)
-                & (tools::within(1, 254, s.shelfLag)
+                & (tools::within(1, 255, s.shelfLag)
                     & (tools::within(1, 127, s.back) & tools::within(1, 127, s.ahead)))))
 }
 
 fn related(s: SetupNumbers) -> bool
-    requires { ⌜ (s .seatLag ≤ 127) × (s .shelfLag ≤ 254) × (s .phases ≤ 255) ⌝ }
+    requires { ⌜ (s .seatLag ≤ 127) × (s .shelfLag ≤ 255) × (s .phases ≤ 256) ⌝ }
     requires { ⌜ (s .back ≤ 127) × (s .ahead ≤ 127) ⌝ }
     ensures { λ r. ⌜ r ≡ Setups.related (Setups.setupWith s []) ⌝ }
 {

@@ -87,6 +87,9 @@ fn records_sound(book: &[u8]) -> bool
     requires { ⌜ length (now book) ≡ bookSize ⌝ }
     ensures { λ r. ⌜ r ≡ allBelow records (recordSound lagOf (now (book .entry))) ⌝ }
 {
+    if !contents::limits_ok(book) {
+        return false;
+    }
     let columns = contents::columns_of(book);
     let seats = seats_sound(book, &columns);
     let mail = mail_sound(book, &columns, seats);

@@ -1,24 +1,18 @@
 -- `asking::way_of` meets its contract.
 -- Assumes nothing.
 use mathlib.Core.Path.{_≡_, _∙_}
-use Prim.Native.Nat.{ℕ, _+_, _<_}
-use mathlib.Core.List.{List}
+use Prim.Native.Nat.{ℕ, _<_}
 use native.Mathlib.Omega.{arith}
-use Rattle.tools.specs.Lists.{byte}
 use Rattle.ring.specs.Phases.{lagOf}
+use Rattle.ring.proofs.Ring.{lag-by-last}
 use Rattle.rules.specs.Model.{byIn}
-use Rattle.book.specs.Layout.{records, shelfFrom, rowSpot, phaseSpot, spot}
+use Rattle.book.specs.Layout.{records, setupOf, rowAt}
 use Rattle.book.specs.Numbers.{tablesOf}
 use Rattle.book.proofs.Below.{phase-below}
 use Rattle.asking.proofs.Slots.{slot-place, slot-eight, way-lags}
 use borrow.Author.Needs.{needs}
 use Rattle.asking.proofs.way_of.Statement.{statement}
 use Rattle.asking.proofs.way_of.Tie as tie
-
-abbrev RingAt : List ℕ → ℕ → ℕ → ℕ → Type 0
-RingAt s j i k =
-    (byte s (spot j (rowSpot + phaseSpot j)) < byte s 3) × (byte s (spot (shelfFrom + i) (rowSpot + phaseSpot j)) < byte s 3) ×
-    (byte s (spot (shelfFrom + k) (rowSpot + phaseSpot j)) < byte s 3)
 
 -- the owner of the first slot
 owner : (c : tie.After-wide)
@@ -42,19 +36,8 @@ entry c = c .before .before .before
 
 -- the phases are on the ring
 on-ring : (c : tie.After-wide) (k : ℕ) → k < records
-    → byte (entry c .args .book .now) (spot k (rowSpot + phaseSpot (c .wide .result))) < byte (entry c .args .book .now) 3
+    → rowAt (entry c .args .book .now) k (c .wide .result) .phase < setupOf (entry c .args .book .now) .phases
 on-ring c k l = phase-below _ (c .before .before .before .pre .0 .1) k _ l (eight c)
-
-all-on-ring : (c : tie.After-wide)
-    → RingAt (entry c .args .book .now) (c .wide .result) (entry c .args .first) (entry c .args .second)
-all-on-ring c =
-    let a = entry c .args in
-    let b = below c in
-    let e = eight c in (
-      on-ring c (c .wide .result) (omega arith),
-      on-ring c (shelfFrom + a .first) (omega arith),
-      on-ring c (shelfFrom + a .second) (omega arith),
-    )
 
 add-e : tie.Need-add-e
 add-e c = omega (arith, below c)
@@ -79,12 +62,6 @@ phase-at-requires-3 c κs =
     let e = eight g in
     (g .before .before .before .pre .0 .0, omega arith)
 
-lag-requires : tie.Need-lag-requires
-lag-requires c κs = let r = all-on-ring (c .before .before .before .before) in omega arith
-
-lag-requires-2 : tie.Need-lag-requires-2
-lag-requires-2 c κs = let r = all-on-ring (c .before .before .before .before .before) in omega arith
-
 clock-at-requires : tie.Need-clock-at-requires
 clock-at-requires c κs =
     let g = c .before .before .before .before .before .before in
@@ -103,14 +80,16 @@ returns : tie.Need-returns
 returns c =
     let g = c .before .before .before .before .before .before .before .before in
     let a = g .before .before .before in
-    let p = c .before .before .before .before .before .before .before .phases-of .ensures in
+    let s = a .args .book .now in
+    let P = setupOf s .phases in
+    let p = c .before .before .before .before .before .before .before .last-phase .ensures in
     let o = c .before .before .before .before .before .before .phase-at .ensures in
     let e = c .before .before .before .before .before .phase-at2 .ensures in
     let f = c .before .before .before .before .phase-at3 .ensures in
     way-lags (a .args .book .now) (a .pre .0 .1) (a .args .first) (a .args .second) (a .pre .1 .0) (a .pre .1 .1) (g .wide .result)
     (owner g) _ _ _ _
-    (c .before .before .before .lag .ensures ∙ (λ t. lagOf (p t) (o t) (e t)))
-    (c .before .before .lag2 .ensures ∙ (λ t. lagOf (p t) (o t) (f t)))
+    (lag-by-last P _ _ _ _ p (rw (e) (on-ring g _ (omega (arith, below g)))) (c .before .before .before .lag .ensures) ∙ (λ t. lagOf P (o t) (e t)))
+    (lag-by-last P _ _ _ _ p (rw (f) (on-ring g _ (omega (arith, below g)))) (c .before .before .lag2 .ensures) ∙ (λ t. lagOf P (o t) (f t)))
     (c .before .clock-at .ensures) (c .clock-at2 .ensures)
 
 pub way-of-spec : {M : Type 1} → statement M
@@ -118,4 +97,4 @@ way-of-spec =
     tie.close
     (tie.spec
     (λ c κs. search needs) (λ c κs. search needs) add-e add-f (λ c κs. search needs) phase-at-requires phase-at-requires-2
-    phase-at-requires-3 lag-requires lag-requires-2 clock-at-requires clock-at-requires-2 returns)
+    phase-at-requires-3 (λ c κs. search needs) (λ c κs. search needs) clock-at-requires clock-at-requires-2 returns)

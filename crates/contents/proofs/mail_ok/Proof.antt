@@ -15,7 +15,7 @@ returns c =
     let s = c .before .before .before .before .before .before .before .before .before in
     let w = c .before .before .before .before in
     rw (recordOk, le-ltb (s .args .k) 8 (omega arith), lt-ltb (s .args .k) shelfFrom (omega arith), mailOk, ne-eqb _ _ (s .pre .1 .2))
-    (rw (c .row-ok .ensures, c .before .wide3 .ensures, c .before .before .seat-lag-of .ensures, c .before .before .before .wide2 .ensures)
+    (rw (c .row-ok .ensures, c .before .two-bytes .ensures, c .before .before .seat-lag-of .ensures, c .before .before .before .wide2 .ensures)
     (rw (w .wide .ensures, w .before .desks-of .ensures, w .before .before .tag-b .ensures, w .before .before .before .tag-a .ensures)))
 
 pub mail-ok-spec : {M : Type 1} → statement M

@@ -13,7 +13,7 @@ unfolding seatNear
 returns c =
     let a = c .before .before .before .before .before .before .args in
     rw (seatNear, lt-ltb (a .k) (byte (a .book .now) 2) (omega arith))
-    (rw (c .row-ok .ensures, c .before .wide .ensures, c .before .before .seat-lag-of .ensures))
+    (rw (c .row-ok .ensures, c .before .two-bytes .ensures, c .before .before .seat-lag-of .ensures))
 
 returns-2 : tie.Need-returns-2
 unfolding seatNear

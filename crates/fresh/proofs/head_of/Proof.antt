@@ -1,7 +1,6 @@
 -- `fresh::head_of` meets its contract.
 -- Assumes nothing.
 use native.Mathlib.Omega.{arith}
-use mathlib.Core.Path.{refl}
 use mathlib.Core.List.{[]}
 use Rattle.tools.specs.Lists.{tab}
 use Rattle.rules.specs.Setups.{setupWith}
@@ -13,8 +12,8 @@ use Rattle.fresh.proofs.head_of.Tie as tie
 cast-t2 : tie.Need-cast-t2
 cast-t2 c = let x = c .before in let r = ranged (setupWith (x .args .s) []) (x .pre) in omega arith
 
-cast-t3 : tie.Need-cast-t3
-cast-t3 c = let x = c .before .before in let r = ranged (setupWith (x .args .s) []) (x .pre) in omega arith
+phases-byte-requires : tie.Need-phases-byte-requires
+phases-byte-requires c κs = let x = c .before in let r = ranged (setupWith (x .args .s) []) (x .pre) in omega arith
 
 cast-t4 : tie.Need-cast-t4
 cast-t4 c = let x = c .before .before .before in let r = ranged (setupWith (x .args .s) []) (x .pre) in omega arith
@@ -30,7 +29,7 @@ cast-t7 c = let x = c .before .before .before .before .before .before in let r =
 
 returns : tie.Need-returns
 unfolding tab headByte
-returns c = refl
+returns c = rw (c .before .before .before .before .phases-byte .ensures)
 
 pub head-of-spec : {M : Type 1} → statement M
-head-of-spec = tie.close (tie.spec cast-t2 cast-t3 cast-t4 cast-t5 cast-t6 cast-t7 returns)
+head-of-spec = tie.close (tie.spec cast-t2 phases-byte-requires cast-t4 cast-t5 cast-t6 cast-t7 returns)

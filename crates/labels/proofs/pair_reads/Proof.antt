@@ -17,8 +17,8 @@ returns c X h =
     let byte = c .before .before .shared-slice-known3 .given in
     rw (
       label-pair (a .bytes .now) j (omega arith),
-      c .before .number2 .ensures,
-      c .before .before .before .before .number .ensures,
+      c .before .two-bytes2 .ensures,
+      c .before .before .before .before .two-bytes .ensures,
       k .before .phase-spot .ensures,
       k .clock-spot .ensures,
     )

@@ -1,13 +1,13 @@
 -- `pictures::from_of` meets its contract.
 -- Assumes nothing.
 use mathlib.Core.Path.{_≡_, _∙_}
-use Prim.Native.Nat.{ℕ, _+_, _<_}
+use Prim.Native.Nat.{ℕ, _<_}
 use native.Mathlib.Omega.{arith}
-use Rattle.tools.specs.Lists.{byte}
 use Rattle.ring.specs.Phases.{lagOf}
+use Rattle.ring.proofs.Ring.{lag-by-last}
 use Rattle.rules.specs.Setups.{Setup, setupWith}
 use Rattle.rules.specs.Model.{byIn}
-use Rattle.book.specs.Layout.{records, shelfFrom, limitsOf, rowSpot, phaseSpot, spot}
+use Rattle.book.specs.Layout.{records, limitsOf, setupOf, rowAt}
 use Rattle.book.specs.Numbers.{tablesOf}
 use Rattle.book.proofs.Below.{phase-below}
 use Rattle.asking.proofs.Slots.{slot-place, slot-eight}
@@ -37,7 +37,7 @@ place c = let a = entry c in slot-place (a .args .book .now) (a .args .slot) (a 
 
 -- the phases are on the ring
 on-ring : (c : tie.After-wide) (k : ℕ) → k < records
-    → byte (entry c .args .book .now) (spot k (rowSpot + phaseSpot (c .wide .result))) < byte (entry c .args .book .now) 3
+    → rowAt (entry c .args .book .now) k (c .wide .result) .phase < setupOf (entry c .args .book .now) .phases
 on-ring c k l = phase-below _ (entry c .pre .0 .1) k _ l (eight c)
 
 add-e : tie.Need-add-e
@@ -48,15 +48,6 @@ phase-at-requires c κs = (entry c .pre .0 .0, (omega (arith, eight c), omega (a
 
 phase-at-requires-2 : tie.Need-phase-at-requires-2
 phase-at-requires-2 c κs = let g = c .before in (entry g .pre .0 .0, (omega (arith, place g), omega (arith, eight g)))
-
-lag-requires : tie.Need-lag-requires
-lag-requires c κs =
-    let g = c .before .before .before in
-    let e = eight g in
-    let p = place g in
-    let own = on-ring g (g .wide .result) (omega arith) in
-    let held = on-ring g (shelfFrom + entry g .args .slot) (omega arith) in
-    omega arith
 
 clock-at-requires : tie.Need-clock-at-requires
 clock-at-requires c κs =
@@ -82,11 +73,14 @@ returns : tie.Need-returns
 returns c =
     let g = c .before .before .before .before .before .before .before .before in
     let a = entry g in
-    let p = c .before .before .before .before .before .phases-of .ensures in
+    let P = setupOf (a .args .book .now) .phases in
+    let p = c .before .before .before .before .before .last-phase .ensures in
     let o = c .before .before .before .before .before .before .before .phase-at .ensures in
     let e = c .before .before .before .before .before .before .phase-at2 .ensures in
     from-is (a .args .book .now) (a .args .slot) (at a) (a .pre .0 .2) (g .wide .result) (owner g)
-    _ _ _ _ _ _ (g .before .owner-of .ensures) o (c .before .before .before .before .lag .ensures ∙ (λ t. lagOf (p t) (o t) (e t)))
+    _ _ _ _ _ _ (g .before .owner-of .ensures) o
+    (lag-by-last P _ _ _ _ p (rw e (on-ring g _ (omega (arith, place g)))) (c .before .before .before .before .lag .ensures)
+    ∙ (λ t. lagOf P (o t) (e t)))
     (c .before .before .before .clock-at .ensures) (c .before .before .least .ensures)
     _ (c .before .reach-back .ensures (limitsOf (a .args .book .now))) (c .most .ensures)
 
@@ -94,5 +88,5 @@ pub from-of-spec : {M : Type 1} → statement M
 from-of-spec =
     tie.close
     (tie.spec
-    (λ c κs. search needs) (λ c κs. search needs) add-e phase-at-requires phase-at-requires-2 (λ c κs. search needs) lag-requires
-    clock-at-requires least-requires reach-back-requires most-requires returns)
+    (λ c κs. search needs) (λ c κs. search needs) add-e phase-at-requires phase-at-requires-2 (λ c κs. search needs)
+    (λ c κs. search needs) clock-at-requires least-requires reach-back-requires most-requires returns)

@@ -1,7 +1,7 @@
 -- `pictures::lag_to` meets its contract.
 -- Assumes nothing.
 use native.Mathlib.Omega.{arith}
-use Rattle.pictures.proofs.Placed.{slot-at, desk-eight, on-ring, lag-at}
+use Rattle.pictures.proofs.Placed.{slot-at, desk-eight, lag-at}
 use borrow.Author.Needs.{needs}
 use Rattle.pictures.proofs.lag_to.Statement.{statement}
 use Rattle.pictures.proofs.lag_to.Tie as tie
@@ -20,16 +20,10 @@ phase-at-requires c κs =
     let d = desk-eight _ _ _ _ _ (a .pre) _ (g .wide .ensures) in
     (a .pre .ready .size, (omega arith, omega arith))
 
-lag-requires : tie.Need-lag-requires
-lag-requires c κs =
-    let g = c .before .before .before .before in
-    let r = on-ring _ _ _ _ _ (entry g .pre) _ (g .wide .ensures) in
-    omega arith
-
 returns : tie.Need-returns
 returns c =
     let g = c .before .before .before .before .before in
-    lag-at _ _ _ _ _ (entry g .pre) _ (g .wide .ensures) _ _ _ (c .before .phases-of .ensures)
+    lag-at _ _ _ _ _ (entry g .pre) _ (g .wide .ensures) _ _ _ (c .before .last-phase .ensures)
     (c .before .before .before .phase-at .ensures) (c .lag .ensures)
 
 pub lag-to-spec : {M : Type 1} → statement M
@@ -37,4 +31,4 @@ lag-to-spec =
     tie.close
     (tie.spec
     (λ c. search needs) (λ c κs. search needs) (λ c. search needs) (λ c. search needs) add-phase-at phase-at-requires (λ c. search needs)
-    (λ c. search needs) (λ c κs. search needs) lag-requires returns)
+    (λ c. search needs) (λ c κs. search needs) (λ c κs. search needs) returns)

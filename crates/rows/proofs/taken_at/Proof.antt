@@ -5,7 +5,7 @@ use mathlib.Core.Path.{_∙_}
 use native.Mathlib.Omega.{arith}
 use Rattle.tools.specs.Lists.{byte}
 use Rattle.ring.specs.Phases.{ring, later}
-use Rattle.book.specs.Layout.{records, rowSpot, phaseSpot, spot}
+use Rattle.book.specs.Layout.{records, rowSpot, phaseSpot, spot, setupOf}
 use Rattle.book.proofs.Below.{phase-below}
 use borrow.Author.Needs.{needs}
 use Rattle.rows.proofs.taken_at.Statement.{statement}
@@ -13,16 +13,17 @@ use Rattle.rows.proofs.taken_at.Tie as tie
 
 -- the phases that are compared are on the ring
 abbrev OnRing : tie.Start → ℕ → Type 0
-OnRing x i = byte (x .args .book .now) (spot i (rowSpot + phaseSpot (x .args .desk))) < byte (x .args .book .now) 3
+OnRing x i = byte (x .args .book .now) (spot i (rowSpot + phaseSpot (x .args .desk))) < setupOf (x .args .book .now) .phases
 
-below : (x : tie.Start) → OnRing x (x .args .desk) × OnRing x (x .args .held) × OnRing x (x .args .mailed)
-below x = (at (x .args .desk) (omega arith), at (x .args .held) (omega arith), at (x .args .mailed) (omega arith))
+below : (x : tie.Start) → OnRing x (x .args .held) × OnRing x (x .args .mailed)
+below x = (at (x .args .held) (omega arith), at (x .args .mailed) (omega arith))
   where
     at : (i : ℕ) → i < records → OnRing x i
     at i l = phase-below (x .args .book .now) (x .pre .0 .1) i (x .args .desk) l (omega arith)
 
 later-requires : tie.Need-later-requires
-later-requires c κs = omega (arith, below (c .before .before .before .before .before .before .before))
+later-requires c κs =
+    omega (arith, below (c .before .before .before .before .before .before .before), c .before .before .before .before .last-phase .ensures)
 
 returns : tie.Need-returns
 returns c =
@@ -32,7 +33,7 @@ returns c =
     let d = e .before in
     let b = d .before in
     c .later .ensures
-    ∙ (λ i. later (ring (b .phases-of .ensures i)) (b .before .phase-at .ensures i)
+    ∙ (λ i. later (ring (b .last-phase .ensures i)) (b .before .phase-at .ensures i)
     (record { phase = d .phase-at2 .ensures i; clock = e .clock-at .ensures i })
     (record { phase = f .phase-at3 .ensures i; clock = g .clock-at2 .ensures i }))
 

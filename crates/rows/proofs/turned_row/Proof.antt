@@ -11,14 +11,14 @@ use Rattle.rows.proofs.turned_row.Tie as tie
 next-requires : tie.Need-next-requires
 next-requires c κs =
     let x = c .before .before .before .before in
-    omega (arith, phase-below (x .args .book .now) (x .pre .whole) (x .args .desk) (x .args .desk) (omega arith) (omega arith))
+    omega (arith, phase-below (x .args .book .now) (x .pre .whole) (x .args .desk) (x .args .desk) (omega arith) (omega arith), c .last-phase .ensures)
 
 returns : tie.Need-returns
 returns c = let x = c .before .before .before .before .before .before in c .with-pair .ensures
     ∙ rw (
       c .before .before .before .before .row-array .ensures,
       c .before .next .ensures,
-      c .before .before .phases-of .ensures,
+      c .before .before .last-phase .ensures,
       c .before .before .before .phase-at .ensures,
     )
     (turned-bytes (x .args .book .now) (x .args .desk) (x .pre .eight))

@@ -13,7 +13,7 @@ returns c = rw (sym (c .before .in-range .ensures) ∙ not-true _ (c .if1 .taken
 related-requires : tie.Need-related-requires
 related-requires c κs =
     let r = ranged _ (sym (c .before .in-range .ensures) ∙ not-false _ (c .if1 .left)) in
-    ((r .seatLag .1, r .shelfLag, r .phases), (r .back .1, r .ahead .1))
+    ((r .seatLag .1, r .shelfLag, r .phases .1), (r .back .1, r .ahead .1))
 
 returns-2 : tie.Need-returns-2
 returns-2 c = rw (sym (c .before .before .in-range .ensures) ∙ not-false _ (c .before .if1 .left)) (c .related .ensures)
