@@ -1,6 +1,6 @@
 -- The starred cases that need no bytes, the listing of the rules, a run for each error that the desks would make, runs that ask of
--- resets, runs whose mails tell more or less, runs that ask for pictures, runs of desks with different limits, and one for each
--- refusal that these leave out. Refusals are by their literal numbers.
+-- resets, runs whose mails tell more or less, runs that ask for pictures, runs of desks with different limits, a run round the full
+-- ring, and one for each refusal that these leave out. Refusals are by their literal numbers.
 -- Assumes nothing.
 --   caseSetup P A     the setup of the cases with a ring of P, and kept stamps that may lag A; X, that with 5 and 4
 --   uneven            X with m of 1 and n of 3
@@ -30,7 +30,10 @@
 --   pictures          runs that ask for pictures: closed ones, each two desks at odds, and what refuses them
 --   lastSent          desk 0 sends desk 1 its last clock, under the limits 4 and 2
 --   limits            runs of two desks with different limits, by their numbers
+--   byteRing P A      two desks that may lag 127 phases on a ring of P, kept stamps A
+--   turns n           n resets of desk 0; turnLines v n, their lines, from the phase v on
 --   upTo n            the numbers below n
+--   round             the full ring and those that are no profile, and a run of desk 0 once round it, by their numbers
 --   filling           32 kept events of desk 0, which fill the shelf; filled, their lines
 --   room              runs on places and slots: full ones, freed ones, and a stamp written or kept too long
 --   all               all of these
@@ -434,6 +437,61 @@ limits =
 abbrev pub upTo : ℕ → List ℕ
 upTo n = tab 0 n (λ i. i)
 
+abbrev pub byteRing : ℕ → ℕ → Setup
+byteRing P A = record { desks = 2; phases = P; limits = 4 ∷ 4 ∷ []; seatLag = 127; shelfLag = A; back = 127; ahead = 127 }
+
+abbrev pub turns : ℕ → List Call
+turns n = replicate n (on (reset 0 false))
+
+abbrev pub turnLines : ℕ → ℕ → List Line
+turnLines v n = map (λ i. told (made 0 (pair (v + i) 0 ∷ pair 0 0 ∷ []))) (upTo n)
+
+abbrev pub round : List Case
+round =
+    -- 17: A of 255 asks for the full ring; rings of 0 and of 257 are none
+    record {
+      calls = start (byteRing 256 255) ∷ start (byteRing 255 255) ∷ start (byteRing 256 256) ∷ start (byteRing 257 255) ∷ start (byteRing 0 255) ∷ [];
+      lines = told plain ∷ refused 2 ∷ refused 2 ∷ refused 2 ∷ refused 2 ∷ [];
+    }
+    -- 18: desk 0 goes once round, 127 phases at a stretch; after 255 comes 0, which is later; at the last its kept 0.1 lags 255
+    ∷ opened (byteRing 256 255)
+    (on (local 0 true)
+    ∷ turns 128
+    ++ on (send 0 1 false)
+    ∷ on (receive 1 0 false)
+    ∷ turns 127
+    ++ on (send 0 1 false)
+    ∷ on (receive 1 0 false)
+    ∷ on (reset 0 true)
+    ∷ on (reset 0 true)
+    ∷ on (drop 0)
+    ∷ on (reset 0 true)
+    ∷ on (send 0 1 false)
+    ∷ on (receive 1 0 true)
+    ∷ on (compare 1 0)
+    ∷ on (compare 0 1)
+    ∷ on (compare 1 2)
+    ∷ [])
+    (told (inSlot 0 (made 0 (pair 0 1 ∷ pair 0 0 ∷ [])))
+    ∷ turnLines 1 127
+    ++ refused 11
+    ∷ told (posted 0 0 (pair 127 1 ∷ pair 0 0 ∷ []))
+    ∷ told (learning 1 (made 1 (pair 127 1 ∷ pair 0 1 ∷ [])))
+    ∷ turnLines 128 127
+    ++ told (posted 0 0 (pair 254 1 ∷ pair 0 0 ∷ []))
+    ∷ told (learning 1 (made 1 (pair 254 1 ∷ pair 0 2 ∷ [])))
+    ∷ told (inSlot 1 (made 0 (pair 255 0 ∷ pair 0 0 ∷ [])))
+    ∷ refused 13
+    ∷ told plain
+    ∷ told (inSlot 0 (made 0 (pair 0 0 ∷ pair 0 0 ∷ [])))
+    ∷ told (posted 0 0 (pair 0 1 ∷ pair 0 0 ∷ []))
+    ∷ told (inSlot 2 (learning 1 (made 1 (pair 0 1 ∷ pair 0 3 ∷ []))))
+    ∷ told (stands Before)
+    ∷ told (stands After)
+    ∷ told (stands Before)
+    ∷ [])
+    ∷ []
+
 abbrev pub filling : List Call
 filling = replicate 32 (on (local 0 true))
 
@@ -535,7 +593,7 @@ room =
     ∷ []
 
 abbrev pub all : List Case
-all = starred ++ listing ∷ errors ++ resets ++ letters ++ pictures ++ limits ++ room
+all = starred ++ listing ∷ errors ++ resets ++ letters ++ pictures ++ limits ++ round ++ room
 
 abbrev pub took : ℕ → Bool → Taken
 took v t = record { pair = pair v 0; changed = t }

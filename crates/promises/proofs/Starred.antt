@@ -1,4 +1,4 @@
--- The starred cases and those of different limits, computed and carried to bytes.
+-- The starred cases, those of different limits and those of the full ring, computed and carried to bytes.
 -- Assumes nothing.
 use mathlib.Core.Path.{_≡_, refl, ap, _∙_}
 use mathlib.Core.Bool.{true}

@@ -1,5 +1,5 @@
--- The starred cases of the rules, 1 to 4 and 6 to 12, and those of different limits, 14 to 16, under one statement: computed on the
--- model, and carried to bytes.
+-- The starred cases of the rules, 1 to 4 and 6 to 12, those of different limits, 14 to 16, and those of the full ring, 17 and 18, under
+-- one statement: computed on the model, and carried to bytes.
 -- Assumes nothing.
 --   fourthRecord      the bytes of case 4; sixteenthRecord, those of case 16
 --   receipt b         the stamp of the receipt of case 15, begun on the book b
@@ -38,7 +38,7 @@ abbrev pub comparedUnder : Setup → ℕ
 comparedUnder X = compareOf X sixteenthRecord sixteenthRecord .number
 
 pub record Starred : Type 0 where
-  -- 1 to 3, 6 to 12, 14 and 15, with the listing, a run for each error of the desks and for each refusal left out there, on any book
+  -- 1 to 3, 6 to 12, 14, 15, 17 and 18, with the listing, a run for each error of the desks and for each refusal left out there, on any book
   pub cases : Cases
   -- 4: the record of the stamp that local 0 answers on a fresh book
   pub fourth : writeStamp 3 (record { owner = 0; row = grown fresh 0 }) ≡ fourthRecord
