@@ -71,7 +71,8 @@ enum {
     GULAMBITOK_ODDS_BYTES = 2,    /* the two desks that picture finds at odds */
     GULAMBITOK_SEATS = 8,
     GULAMBITOK_PLACES = 32,
-    GULAMBITOK_SLOTS = 32
+    GULAMBITOK_SLOTS = 32,
+    GULAMBITOK_FULL_RING = 256    /* phases, where each has its whole byte */
 };
 
 /* Offsets in the book. */
@@ -86,7 +87,7 @@ enum {
  * the last. */
 enum {
     GULAMBITOK_HEADER_DESKS_AT = 2,     /* D */
-    GULAMBITOK_HEADER_PHASES_AT = 3,    /* P */
+    GULAMBITOK_HEADER_PHASES_AT = 3,    /* P, 0 for the full ring of 256 phases */
     GULAMBITOK_HEADER_SEAT_LAG_AT = 5,  /* M */
     GULAMBITOK_HEADER_SHELF_LAG_AT = 6, /* A */
     GULAMBITOK_HEADER_BACK_AT = 7,      /* m */
@@ -115,9 +116,10 @@ enum {
 /* Start writes a fresh book under a setup: rows zero, no seat started, all places free. What the
  * book held before is lost. The setup is D desks, P phases on the ring, a list of exactly D limits,
  * M the lag permitted to a seat, A the lag permitted to a kept stamp, m and n the reach of a
- * comparison: from m-1 phases back, m from a reset, to n-1 ahead. The i-th limit, from 2 to 255, is
- * how many clock values desk i has in a phase; limits are numbers as wide as any other, so 260 is
- * not 4. No other call changes a limit. Refusals: 1, 2. */
+ * comparison: from m-1 phases back, m from a reset, to n-1 ahead. P is from 3 to
+ * GULAMBITOK_FULL_RING, where every byte is a phase; it is handed over as the number 256, and 0 is
+ * refused. The i-th limit, from 2 to 255, is how many clock values desk i has in a phase; limits are
+ * numbers as wide as any other, so 260 is not 4. No other call changes a limit. Refusals: 1, 2. */
 uint8_t gulambitok_start(uint8_t *book, size_t book_len, size_t desks, size_t phases,
                          const size_t *limits, size_t limits_len, size_t seat_lag, size_t shelf_lag,
                          size_t back, size_t ahead);

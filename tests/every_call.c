@@ -567,6 +567,61 @@ static void one_limit_in_the_header(void)
     unkept_local(0);
 }
 
+#define RING(phases) 2, phases, LIST(4, 4), 1, 1, 1, 1
+#define LONG_LAGS(phases, shelf_lag) 2, phases, LIST(4, 4), 127, shelf_lag, 127, 127
+#define FULL LONG_LAGS(GULAMBITOK_FULL_RING, 255)
+
+/* Cut to a byte 259 would be 3, and 0, 512 and the last but one the 0 that tells 256. */
+static void rings_refused(void)
+{
+    const size_t outside[] = {0, 1, 2, 257, 259, 512, ((size_t)1 << 32) + 256, SIZE_MAX};
+    for (size_t i = 0; i < sizeof outside / sizeof *outside; i++) {
+        REFUSED(BAD_SETUP, gulambitok_start(BOOK, RING(outside[i])));
+        REFUSED(BAD_SETUP, gulambitok_label_before(RING(outside[i]), NO_LABELS));
+        REFUSED(BAD_SETUP, gulambitok_label_compare(RING(outside[i]), NO_LABELS));
+        REFUSED(BAD_SETUP, gulambitok_label_newest(RING(outside[i]), NO_LABELS));
+    }
+    REFUSED(BAD_SETUP, gulambitok_start(BOOK, LONG_LAGS(255, 255)));
+    REFUSED(BAD_SETUP, gulambitok_start(BOOK, LONG_LAGS(256, 256)));
+}
+
+/* Desk 0 turns so many phases on, as far as desk 1 may lag, and tells it. */
+static void turns_and_tells(int phases)
+{
+    for (int i = 0; i < phases; i++)
+        DONE(gulambitok_reset(BOOK, 0, 0, now.stamp, 20, NULL, 0));
+    mail(0, 1);
+    EXPECT(learnt(1, 0) == 1);
+}
+
+/* Once round: the phase after 255 is 0, and is later than 255 in the seat of desk 1. */
+static void full_ring(void)
+{
+    rings_refused();
+    DONE(gulambitok_start(BOOK, FULL));
+    EXPECT(memcmp(now.book, "BK\2\0\0\x7F\xFF\x7F\x7F\0\0\0\0\0\0\0SE\0\4", 20) == 0);
+    SPOILT(now.book + GULAMBITOK_HEADER_PHASES_AT, 1);
+    SPOILT(now.book + GULAMBITOK_HEADER_PHASES_AT, 2);
+    SPOILT(now.book + GULAMBITOK_HEADER_PHASES_AT, 255);
+    turns_and_tells(127);
+    turns_and_tells(127);
+    DONE(gulambitok_reset(BOOK, 0, 0, now.second, 20, NULL, 0));
+    EXPECT(memcmp(now.second, "ST\0\2\xFF\0\0\0", 8) == 0);
+    turns_and_tells(1);
+    EXPECT(memcmp(now.stamp, "ST\1\2\0\1\0\3", 8) == 0);
+}
+
+/* Of that book: 255.0 of desk 0, and what desk 1 has of it since; the record does not say which ring it is of. */
+static void records_of_the_full_ring(void)
+{
+    DONE(gulambitok_label_before(FULL, STAMP_SECOND, now.answer, 1));
+    EXPECT(now.answer[0] == 1);
+    DONE(gulambitok_label_newest(FULL, STAMP_FIRST, now.answer, 1));
+    EXPECT(now.answer[0] == GULAMBITOK_FIRST);
+    REFUSED(BAD_STAMP, gulambitok_label_before(LONG_LAGS(255, 254), STAMP_SECOND, now.answer, 1));
+    DONE(gulambitok_label_compare(LONG_LAGS(255, 254), STAMP_TWICE, now.answer, 1));
+}
+
 int main(void)
 {
     memset(&now, 0xEE, sizeof now);
@@ -589,5 +644,7 @@ int main(void)
     books_by_the_limits();
     ends_of_the_range();
     one_limit_in_the_header();
+    full_ring();
+    records_of_the_full_ring();
     return wrong;
 }
