@@ -11,7 +11,8 @@ changed. Picture takes any number of slots; its values are a yes, or the two des
 at odds.
 
 Off the book, the calls take a setup and two stamp records and hand back
-(number, values).
+(number, values). A record does not say of how many phases its ring is: the setup
+does. A P of 256 is that number everywhere but in the header, where its byte is 0.
 """
 
 from collections import namedtuple
@@ -39,7 +40,10 @@ FREE = bytes(RECORD_BYTES - 2)
 Setup = namedtuple("Setup", "D P limits M A m n")
 Stamp = namedtuple("Stamp", "owner row")
 
-RANGES = {"D": (2, 8), "P": (3, 255), "M": (1, 127), "A": (1, 254), "m": (1, 127), "n": (1, 127)}
+# The P of the full byte ring, whose phases are all that a byte holds.
+FULL_RING = 256
+
+RANGES = {"D": (2, 8), "P": (3, FULL_RING), "M": (1, 127), "A": (1, 255), "m": (1, 127), "n": (1, 127)}
 LIMIT_RANGE = 2, 255
 
 
@@ -65,8 +69,22 @@ def limited(D, limits):
 
 def setup_of(book):
     """The header has no limits: they stand in the seats of the desks below D."""
-    D, P, _, M, A, m, n = book[2:9]
-    return Setup(D, P, tuple(book[limit_at(0):MAIL_AT:RECORD_BYTES][:D]), M, A, m, n)
+    D, byte, _, M, A, m, n = book[2:9]
+    return Setup(D, phases_told(byte), tuple(book[limit_at(0):MAIL_AT:RECORD_BYTES][:D]), M, A, m, n)
+
+
+def phases_told(byte):
+    """The P that the header's byte tells: 256 has no byte of its own, so 0 stands for it."""
+    return FULL_RING if byte == 0 else byte
+
+
+def phases_byte(P):
+    """The header's byte for a P that is permitted."""
+    return 0 if P == FULL_RING else P
+
+
+def header_of(D, P, *lags):
+    return HEADER_MARK + bytes((D, phases_byte(P), 0, *lags)) + bytes(7)
 
 
 # Where the records lie
@@ -107,6 +125,11 @@ def lag_behind(own, phase, P):
     if own >= phase:
         return own - phase
     return own + P - phase
+
+
+def next_phase(phase, P):
+    """After the last comes 0."""
+    return (phase + 1) % P
 
 
 # A sound book, clause by clause
@@ -263,11 +286,10 @@ def start(book, *setup):
                       + (SHELF_MARK + FREE) * SLOTS)
 
 
-def fresh_head(D, P, limits, M, A, m, n):
+def fresh_head(D, P, limits, *lags):
     """The header, and eight seats not started, each desk's limit in its own."""
-    header = HEADER_MARK + bytes((D, P, 0, M, A, m, n)) + bytes(7)
-    limits = [*limits, *[0] * (SEATS - D)]
-    return header + b"".join(SEAT_MARK + bytes((0, limit)) + NO_ROW for limit in limits)
+    seats = [SEAT_MARK + bytes((0, limit)) + NO_ROW for limit in (*limits, *[0] * (SEATS - D))]
+    return header_of(D, P, *lags) + b"".join(seats)
 
 
 def put_on_shelf(after, desk, keep):
@@ -407,7 +429,7 @@ def reset(book, desk, keep):
         return refused(number, book)
     after = bytearray(book)
     own = own_entry(desk)
-    after[own] = (book[own] + 1) % setup_of(book).P
+    after[own] = next_phase(book[own], setup_of(book).P)
     after[own + 1] = 0
     after[seat_at(desk) + 2] = 1
     slot = put_on_shelf(after, desk, keep)

@@ -16,13 +16,13 @@ PLACES = SLOTS = 32
 
 
 def permitted(D, P, limits, M, A, m, n):
-    if D not in range(2, 9) or P not in range(3, 256):
+    if D not in range(2, 9) or P not in range(3, 257):
         return False
     if [limit in range(2, 256) for limit in limits] != [True] * D:
         return False
     if M not in range(1, 128) or m not in range(1, 128) or n not in range(1, 128):
         return False
-    return A in range(M, P) and A < 255 and 2 * M < P and m + n <= P
+    return A in range(M, P) and 2 * M < P and m + n <= P
 
 
 class Event:
@@ -302,7 +302,8 @@ class Run:
         return b"ST" + bytes((event.desk, self.D)) + self.row(event.pairs)
 
     def book(self):
-        parts = [b"BK", bytes((self.D, self.P, 0, self.M, self.A, self.m, self.n)), bytes(7)]
+        # The header's byte for 256 phases is 0.
+        parts = [b"BK", bytes((self.D, self.P % 256, 0, self.M, self.A, self.m, self.n)), bytes(7)]
         for limit, event in zip(self.limits, self.last):
             parts += [b"SE", bytes((bool(event), limit)), self.row(event.pairs if event else ())]
         parts += [b"SE", bytes(18)] * (8 - self.D)

@@ -9,8 +9,9 @@ is asked for. A prefix to run it by is given by --runner. `tests/raw` builds it.
 Sound books made at random (unreachable ones too), full shelves, mail that tells
 of none to all, pictures with each two desks at odds and lists that do not fit,
 clocks about their desk's limit in every kind of row, limits that are not there,
-not due or too many, bytes damaged at every offset, phases off the ring, wrong
-lengths and odd numbers.
+not due or too many, bytes damaged at every offset, phases off the ring, every
+phase byte in every kind of row under P of 256 and of 255, lags about the bounds
+from 255 to 0, a P byte of 0, 1 and 2, wrong lengths and odd numbers.
 The answer and every byte of every lent buffer, and of the bytes on both sides of
 it, must be alike.
 The first difference is printed and ends with 1.
@@ -55,14 +56,36 @@ LATER, EQUAL, OLDER = -1, 0, 1
 # What a picture answers: its number, and how many values.
 PICTURES = ((0, 1), (0, 2), (1, 0), (5, 0), (16, 0), (18, 0))
 
-# Added to a slot or a limit they are another number, but the same in 8, 16, 32 or 63 bits.
+# Added to a slot, a limit, a P or an A they are another number, but the same in 8, 16, 32 or 63 bits.
 WIDER = (256, 2**16, 2**32, 2**63)
+
+# The full byte ring, and the largest that is not.
+LARGE_RINGS = (book.FULL_RING, 255)
+
+# Numbers for P, of which 3 to 256 are good: about both ends, and such as would be if they were cut.
+RING_NUMBERS = (0, 1, 2, 3, 254, 255, 256, 257, 258, 259, 511, 512, 768, 2**64 - 256, 2**64 - 1,
+                *(more + number for more in WIDER[1:] for number in (0, 3, 255, 256)))
+SHELF_LAGS = (253, 254, 255, 256, 257, *(more + 255 for more in WIDER))
+
+# Bytes for P in a header: 0 is 256, and 1 and 2 are no P.
+RING_BYTES = (0, 1, 2, 3, 4, 254, 255)
+
+# Own phases about the seam, from 255 to 0, and half a ring from it.
+SEAM_PHASES = (0, 1, 2, 126, 127, 128, 253, 254, 255)
+
+# P, M and A: with the largest lags, with the largest that can be gone beyond, and with small ones.
+SEAM_LAGS = ((256, 127, 255), (256, 127, 254), (256, 3, 7), (255, 126, 253), (255, 3, 7))
+
+# Each kind of row, the number of a reset that it refuses, and how far it may lag.
+ROWS = {"seat": (book.SEAT_BEHIND, lambda setup: setup.M),
+        "mail": (book.MAIL_BEHIND, lambda setup: 2 * setup.M),
+        "slot": (book.SHELF_BEHIND, lambda setup: setup.A)}
 
 RELATIONS = ("before", "after", "same", "concurrent", "crossed")
 WRONG_LENGTHS = (0, 1, 1455, 1457)
 WRONG_LABEL_LENGTHS = (0, 1, 2, 19, 21, 40)
 GUARD = 24
-DEFAULT_CALLS = 9900
+DEFAULT_CALLS = 11250
 SOUND_BOOKS = 600
 BATCH = 250
 
@@ -203,7 +226,7 @@ def any_setup(rng):
     if rng.random() < 0.5:
         return book.Setup(*seeds.good_setup(rng))
     D = rng.randint(2, 8)
-    P = rng.choice((3, 4, 5, 128, 254, 255, rng.randint(3, 255)))
+    P = rng.choice((3, 4, 5, 128, 254, 255, 256, rng.randint(3, 256)))
     M = rng.randint(1, (P - 1) // 2)
     return book.Setup(D, P, seeds.some_limits(rng, D), M, rng.randint(M, P - 1),
                       *seeds.some_reach(rng, P))
@@ -282,12 +305,12 @@ def sound_book(rng):
     return sound_book_of(rng, any_setup(rng))
 
 
-def sound_book_of(rng, setup, started=None):
+def sound_book_of(rng, setup, started=None, own=None):
     started = started or random_started(rng, setup.D)
-    own = random_phases(rng, setup, started)
+    own = own or random_phases(rng, setup, started)
     D, P, _, *lags = setup
     seats = [random_seat(rng, setup, own, desk, begun) for desk, begun in enumerate(started)]
-    made = (book.HEADER_MARK + bytes((D, P, 0, *lags)) + bytes(7)
+    made = (book.header_of(D, P, *lags)
             + b"".join(book.SEAT_MARK + seat for seat in seats)
             + (book.SEAT_MARK + book.FREE) * (8 - D)
             + random_room(rng, book.MAIL_MARK, lambda: random_mail(rng, setup, own))
@@ -299,6 +322,54 @@ def sound_book_of(rng, setup, started=None):
 
 def fresh_book(setup):
     return book.start(bytes(book.BOOK_BYTES), *setup)[2]
+
+
+def full_ring_setup(rng):
+    return book.Setup(*seeds.full_ring_setup(rng))
+
+
+def large_setup(rng, D, P, **numbers):
+    """The largest lags that a large ring permits, unless other numbers are given."""
+    setup = book.Setup(D, P, seeds.some_limits(rng, D), 127, P - 1, *seeds.some_reach(rng, P))
+    return setup._replace(**numbers)
+
+
+def level_book(setup, own):
+    """A sound book in which nothing lags: every seat has all own phases, and the rooms are free."""
+    row = bytes(number for phase in own for number in (phase, 0)).ljust(16, b"\0")
+    seats = [book.SEAT_MARK + bytes((1, limit)) + row for limit in setup.limits]
+    fresh = fresh_book(setup)
+    return fresh[:book.SEAT_AT] + b"".join(seats) + fresh[book.seat_at(setup.D):]
+
+
+def uneven_book(rng, setup, own, desk, kind, phase):
+    """A level book but for one row of a kind, in which the entry for a desk has this phase."""
+    content, other = level_book(setup, own), (desk + 1) % setup.D
+    row = with_byte(book.row_at(content, book.seat_at(desk)), 2 * desk, phase)
+    at, made = {
+        "seat": (book.seat_at(other), book.SEAT_MARK + bytes((1, setup.limits[other])) + row),
+        "mail": (book.place_at(rng.randrange(32)), book.MAIL_MARK + bytes((desk + 1, other + 1)) + row),
+        "slot": (book.slot_at(rng.randrange(32)), book.SHELF_MARK + bytes((other + 1, 0)) + row),
+    }[kind]
+    return content[:at] + made + content[at + 20:]
+
+
+def every_phase_book(rng, P, turn):
+    """A sound book of eight desks with every phase of a large ring in its slots and, over eight turns, elsewhere."""
+    setup, own = large_setup(rng, 8, P), [32 * desk + 4 * turn for desk in range(8)]
+    made = bytearray(sound_book_of(rng, setup, [True] * 8, own))
+    for desk, other in itertools.permutations(range(8), 2):
+        made[book.seat_at(other) + 4 + 2 * desk] = (own[desk] - (other - desk) % 8) % P
+    for at in range(32):
+        made[book.place_at(at) + 2:book.place_at(at) + 4] = rng.sample(range(1, 9), 2)
+        made[book.slot_at(at) + 2] = rng.randint(1, 8)
+        for desk in range(8):
+            phase = (32 * ((desk + turn) % 8) + at) % P
+            made[book.slot_at(at) + 4 + 2 * desk] = phase
+            # One phase of 256 lags more than mail may.
+            mailed = phase if book.lag_behind(own[desk], phase, P) <= 2 * setup.M else own[desk]
+            made[book.place_at(at) + 4 + 2 * desk] = mailed
+    return bytes(made)
 
 
 def kind_of(held, told):
@@ -342,9 +413,13 @@ def told_book(rng, desk, place, kinds):
     return bytes(made)
 
 
+def edges_of_reach(setup):
+    """The differences at both ends of the reach, with and without a reset, and just beyond it."""
+    return -setup.m - 1, -setup.m, 1 - setup.m, setup.n - 1, setup.n
+
+
 def edge_of_reach(rng, setup):
-    """A difference at an end of the reach, with and without a reset, or just beyond it."""
-    return rng.choice((-setup.m - 1, -setup.m, 1 - setup.m, setup.n - 1, setup.n))
+    return rng.choice(edges_of_reach(setup))
 
 
 def shelf_with(rng, content, desk, free):
@@ -359,10 +434,10 @@ def shelf_with(rng, content, desk, free):
     return bytes(made)
 
 
-def answered(rng, name, number):
+def answered(rng, name, number, setup_made):
     """A sound book and an event's numbers but the last, to which it answers so if it is not kept."""
     while True:
-        content = sound_book(rng)
+        content = sound_book_of(rng, setup_made(rng))
         numbers = aimed(rng, name, content)
         if getattr(book, name)(content, *numbers, 0)[0] == number:
             return content, numbers
@@ -607,6 +682,13 @@ def trials(rng):
         yield from odd_number_trials(rng)
         yield from odd_setup_trials(rng)
         yield from short_ring_trials(rng)
+        yield from ring_number_trials(rng)
+        yield from ring_byte_trials(rng)
+        yield from every_phase_trials(rng)
+        yield from last_phase_trials(rng)
+        yield from seam_lag_trials(rng)
+        yield from label_phase_trials(rng)
+        yield from label_seam_trials(rng)
         yield from limit_list_trials(rng)
         yield from odd_limit_trials(rng)
         yield from limit_byte_trials(rng)
@@ -664,6 +746,62 @@ def short_ring_trials(rng):
             yield on_book(rng, with_byte(given, 3, ring))
             for name in LABEL_CALLS:
                 yield label_call(rng, name, setup._replace(P=ring), two_labels(rng, setup))
+
+
+def ring_number_trials(rng):
+    """P of each number, and A of each under both large rings: to start with, and of records."""
+    for P, lags in itertools.product(RING_NUMBERS, ((1, 1, 1, 1), (127, 255, 127, 127))):
+        setup = book.Setup(2, P, (4, 2), *lags)
+        yield call_on(rng, "start", Lent(rng, sound_book(rng)), setup)
+        # Records that read under any ring, or under the full one alone.
+        labels = two_labels(rng, setup._replace(P=rng.choice((3, 256)), m=1, n=1))
+        for name in LABEL_CALLS:
+            yield label_call(rng, name, setup, labels)
+    for P, A in itertools.product(LARGE_RINGS, SHELF_LAGS):
+        setup = large_setup(rng, rng.randint(2, 8), P)
+        yield from setup_trials(rng, setup._replace(A=A), two_labels(rng, setup))
+
+
+def ring_byte_trials(rng):
+    """The header's byte for P made each of these, in books that keep to the smallest ring or to a large one."""
+    for D in (2, 5, 8):
+        setup = setup_of_desks(rng, D)._replace(P=3, M=1, A=1, m=1, n=1)
+        for content in (fresh_book(setup), level_book(setup, [2] * D), sound_book_of(rng, setup),
+                        sound_book_of(rng, setup._replace(P=256))):
+            for byte in RING_BYTES:
+                yield on_book(rng, with_byte(content, 3, byte))
+
+
+def every_phase_trials(rng):
+    """Books with every phase in every kind of row; what they hold is asked about and compared."""
+    for P, turn in itertools.product(LARGE_RINGS, range(8)):
+        content = every_phase_book(rng, P, turn)
+        for name in ("local", "send", "receive", "reset", "picture", *("before", "compare") * 6):
+            numbers = aimed(rng, name, content) + some_wish(rng, name)
+            yield call_on(rng, name, Lent(rng, content), numbers)
+
+
+def last_phase_trials(rng):
+    """Phase 255 for each desk, in each kind of row and as its own: a ring of 255 has none."""
+    for P, desk in itertools.product(LARGE_RINGS, range(8)):
+        setup = large_setup(rng, 8, P)
+        own = seeds.placed([rng.randrange(P) for _ in range(8)], desk, rng.choice((0, 1)))
+        for kind in ROWS:
+            yield on_book(rng, uneven_book(rng, setup, own, desk, kind, 255))
+        yield on_book(rng, level_book(setup, seeds.placed(own, desk, 255)))
+
+
+def seam_lag_trials(rng):
+    """Resets where a row lags one less than it may, as far as it may, and one more: about the seam."""
+    for (P, M, A), kind, phase in itertools.product(SEAM_LAGS, ROWS, SEAM_PHASES):
+        if phase < P:
+            D = rng.randint(2, 8)
+            setup, desk = large_setup(rng, D, P, M=M, A=A), rng.randrange(D)
+            own = seeds.placed([rng.randrange(P) for _ in range(D)], desk, phase)
+            for more in (-1, 0, 1):
+                behind = (phase - ROWS[kind][1](setup) - more) % P
+                content = uneven_book(rng, setup, own, desk, kind, behind)
+                yield call_on(rng, "reset", Lent(rng, content), [desk, *some_wish(rng, "reset")])
 
 
 def limit_list_trials(rng):
@@ -808,7 +946,9 @@ def shelf_trials(rng):
     """Each event by each wish, with no slot free and with one, and slot buffers about their length."""
     for name, number in UNKEPT:
         for free in (0, 1):
-            content, numbers = answered(rng, name, number)
+            # A full shelf alone stands in the way under P of 256, too.
+            full = (number, free) == (book.DONE, 0)
+            content, numbers = answered(rng, name, number, full_ring_setup if full else any_setup)
             content = shelf_with(rng, content, numbers[0], free)
             for wish, room in itertools.product(WISHES, (0, 1, 2)):
                 yield name, [Lent(rng, content), *numbers, wish,
@@ -832,7 +972,7 @@ def told_trials(rng):
 def learnt_room_trials(rng):
     """Receipts by some wishes, with no slot free and with one, and learnt buffers about their length."""
     for number, free in itertools.product((book.DONE, book.PHASE_FULL), (0, 1)):
-        content, numbers = answered(rng, "receive", number)
+        content, numbers = answered(rng, "receive", number, any_setup)
         content = shelf_with(rng, content, numbers[0], free)
         for wish, room, slot in itertools.product((0, 1, 256), (0, 1, 2), (0, 1)):
             yield "receive", [Lent(rng, content), *numbers, wish,
@@ -897,7 +1037,8 @@ def round_trials(rng):
     for desk in range(8):
         for at in (book.own_entry(desk), rng.randrange(book.SEAT_AT, book.BOOK_BYTES, 20) + 4 + 2 * desk):
             content = sound_book(rng)
-            yield fitting(rng, some_call(rng), Lent(rng, moved_round(content, at, content[3])))
+            moved = moved_round(content, at, book.setup_of(content).P)
+            yield fitting(rng, some_call(rng), Lent(rng, moved))
 
 
 def noise_trials(rng):
@@ -992,6 +1133,38 @@ def label_trial(rng, name, spoil):
     return label_call(rng, name, setup, labels)
 
 
+def with_phases(label, phases):
+    made = bytearray(label)
+    made[4:4 + 2 * len(phases):2] = bytes(phases)
+    return bytes(made)
+
+
+def label_phase_trials(rng):
+    """Every phase in records, sixteen in each two; then 255 at each place of them: a ring of 255 has none."""
+    for P, block in itertools.product(LARGE_RINGS, range(16)):
+        setup, phases = large_setup(rng, 8, P), [(16 * block + at) % P for at in rng.sample(range(16), 16)]
+        labels = [with_phases(label, phases[at:at + 8])
+                  for label, at in zip(two_labels(rng, setup), (0, 8))]
+        for name in LABEL_CALLS:
+            yield label_call(rng, name, setup, labels)
+    for P, desk, at in itertools.product(LARGE_RINGS, range(8), range(2)):
+        setup = large_setup(rng, 8, P)
+        labels = two_labels(rng, setup)
+        labels = seeds.placed(labels, at, with_byte(labels[at], 4 + 2 * desk, 255))
+        yield label_call(rng, rng.choice(LABEL_CALLS), setup, labels)
+
+
+def label_seam_trials(rng):
+    """About the ends of the reach from phases about the seam, of a reset and of others."""
+    for P, (m, n), clock in itertools.product(LARGE_RINGS, ((127, 127), (2, 3)), (0, 1)):
+        setup = large_setup(rng, rng.randint(2, 8), P, m=m, n=n)
+        for phase, d in itertools.product((0, 1, P - 2, P - 1), edges_of_reach(setup)):
+            e, f = two_labels(rng, setup)
+            at = 4 + 2 * e[2]
+            e, f = with_byte(with_byte(e, at, phase), at + 1, clock), with_byte(f, at, (phase + d) % P)
+            yield label_call(rng, rng.choice(LABEL_CALLS), setup, (e, f))
+
+
 # The comparison
 
 Asked = collections.namedtuple("Asked", "name arguments number memories")
@@ -1023,9 +1196,42 @@ def differences(asked, number, memories):
     return wrong
 
 
+# How often each call was answered so, and which phases were read under the large rings.
+Seen = collections.namedtuple("Seen", "answers phases")
+
+
 def seen_of(asked):
-    """The call with its number, and a value that went with it."""
-    return asked.name, asked.number, value_of(asked) if asked.number == book.DONE else None
+    """The call with its number, a value that went with it, and whether its P is 256."""
+    value = value_of(asked) if asked.number == book.DONE else None
+    return asked.name, asked.number, value, phases_of(asked) == book.FULL_RING
+
+
+def phases_of(asked):
+    """The P that a call goes by: as it is given, or as the header tells it."""
+    numbers, lent = parted(asked.arguments)
+    if asked.name in ("start", *LABEL_CALLS):
+        return numbers[1]
+    return book.setup_of(lent[0].content()).P if lent[0].length == book.BOOK_BYTES else None
+
+
+def phases_read(asked):
+    """Of a book or of records that were read: the P, the kind of row and the phase, of each entry below D."""
+    P = phases_of(asked)
+    if P not in LARGE_RINGS or asked.name == "start" or asked.number in (
+            book.BAD_BOOK, book.BAD_SETUP, book.BAD_STAMP):
+        return set()
+    return {(P, kind, phase) for kind, row in rows_of(asked) for phase in row}
+
+
+def rows_of(asked):
+    """The kind and the phases of each row that is in use."""
+    numbers, lent = parted(asked.arguments)
+    if asked.name in LABEL_CALLS:
+        return [("record", label.content()[4:4 + 2 * numbers[0]:2]) for label in lent[1:3]]
+    content = lent[0].content()
+    used = [at for at in range(book.SEAT_AT, book.BOOK_BYTES, 20) if content[at + 2]]
+    return [("seat" if at < book.MAIL_AT else "mail" if at < book.SHELF_AT else "slot",
+             content[at + 4:at + 4 + 2 * content[2]:2]) for at in used]
 
 
 def value_of(asked):
@@ -1047,17 +1253,18 @@ def report(trial, seed, asked, wrong):
 
 
 def compare(library, calls, seed):
-    """What was seen of each call; None when something differs."""
-    seen = collections.Counter()
+    """What was seen of the calls; None when something differs."""
+    seen = Seen(collections.Counter(), set())
     for batch in batches(calls, seed):
         answers, ended = library(batch)
         for asked, answer in itertools.zip_longest(batch, answers):
             wrong = (differences(asked, *answer) if answer
                      else [f"the driver answers nothing and ends with {ended}"])
             if wrong:
-                report(sum(seen.values()) + 1, seed, asked, wrong)
+                report(sum(seen.answers.values()) + 1, seed, asked, wrong)
                 return None
-            seen[seen_of(asked)] += 1
+            seen.answers[seen_of(asked)] += 1
+            seen.phases.update(phases_read(asked))
         if ended != 0:
             print(f"all calls agree, but the driver ends with {ended}")
             return None
@@ -1066,11 +1273,20 @@ def compare(library, calls, seed):
 
 def summary(seen):
     for name in NEEDS:
-        numbers = collections.Counter()
-        for (call, number, _), count in seen.items():
-            if call == name:
-                numbers[number] += count
-        print(f"  {name}: " + ", ".join(f"{n:03} {c}" for n, c in sorted(numbers.items())))
+        print(f"  {name}: {numbers_of(seen, name, (False, True))}")
+        print(f"    of these under P of 256: {numbers_of(seen, name, (True,))}")
+    for P in LARGE_RINGS:
+        kinds = collections.Counter(kind for ring, kind, _ in seen.phases if ring == P)
+        print(f"  phases read under P of {P}: " + ", ".join(f"{kind} {c}" for kind, c in sorted(kinds.items())))
+
+
+def numbers_of(seen, name, rings):
+    """How often a call gave each number."""
+    numbers = collections.Counter()
+    for (call, number, _, full), count in seen.answers.items():
+        if call == name and full in rings:
+            numbers[number] += count
+    return ", ".join(f"{number:03} {count}" for number, count in sorted(numbers.items()))
 
 
 def main():
@@ -1084,7 +1300,7 @@ def main():
     seen = compare(driver(command), options.calls, options.seed)
     if seen is None:
         return 1
-    print(f"{sum(seen.values())} calls agreed; how often each number was answered:")
+    print(f"{sum(seen.answers.values())} calls agreed; how often each number was answered:")
     summary(seen)
     return 0
 

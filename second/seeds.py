@@ -27,6 +27,7 @@ EDGE_SETUPS = (
     (2, 255, (2, 2), 127, 127, 1, 127), (3, 255, (5, 2, 255), 127, 127, 127, 1),
     (3, 254, (255, 255, 255), 126, 253, 127, 127), (5, 9, (30, 3, 30, 4, 30), 4, 4, 5, 4),
     (6, 3, (30,) * 6, 1, 1, 1, 1), (7, 6, (40, 10, 200, 10, 40, 11, 12), 2, 5, 3, 3),
+    (2, 256, (2, 2), 127, 255, 127, 127), (8, 256, (30,) * 8, 1, 255, 1, 127),
 )
 
 EDGE_LIMITS = (2, 3, 4, 10, 11, 200, 201, 254, 255)
@@ -34,6 +35,10 @@ EDGE_LIMITS = (2, 3, 4, 10, 11, 200, 201, 254, 255)
 # These are no limit, and no D; some would be if they were cut to a byte.
 ODD_LIMITS = (0, 1, 256, 257, 258, 260, 511, 512, 999)
 ODD_DESKS = (0, 1, 9, 10, 99, 255, 256, 257, 258, 264, 512, 999)
+
+# About both ends of P and the upper one of A; some above would be others of these if they were cut to a byte.
+EDGE_PHASES = (0, 1, 2, 3, 254, 255, 256, 257, 258, 259, 511, 512, 768, 999)
+EDGE_SHELF_LAGS = (253, 254, 255, 256, 257, 511)
 
 ODD_NUMBERS = (0, 1, 2, 3, 7, 8, 9, 30, 31, 32, 33, 99, 127, 128, 200, 254,
                255, 256, 257, 511, 512, 998, 999)
@@ -76,9 +81,19 @@ def some_limits(rng, D):
                        rng.choices(EDGE_LIMITS, k=D), [rng.randint(2, 255) for _ in alike]))
 
 
+def full_ring_setup(rng):
+    """P of 256, with lags at both ends of their ranges and between."""
+    M = rng.choice((1, 2, 64, 126, 127, rng.randint(1, 127)))
+    A = rng.choice((M, 254, 255, rng.randint(M, 255)))
+    D = rng.choice((2, 2, 3, 4, 5, 8))
+    return D, 256, some_limits(rng, D), M, A, *some_reach(rng, 256)
+
+
 def good_setup(rng):
     if rng.random() < 0.3:
         return rng.choice(EDGE_SETUPS)
+    if rng.random() < 0.08:
+        return full_ring_setup(rng)
     M = rng.choice((1, 1, 1, 2, 2, 3, rng.randint(1, 30)))
     A = M + rng.choice((0, 0, 1, 2, rng.randint(0, 60)))
     P = max(2 * M + 1, A + 1) + rng.choice((0, 0, 0, 1, rng.randint(0, 20)))
@@ -141,6 +156,21 @@ ODD_STARTS = (over_an_edge, over_an_edge, one_moved, odd_limit, odd_limit, odd_d
 
 def odd_start(rng):
     return rng.choice(ODD_STARTS)(rng, *good_setup(rng))
+
+
+def edge_phases(rng, D, P, limits, *lags):
+    """P below, at and above its range, mostly with lags that any ring or the full one permits."""
+    lags = rng.choice(((1, 1, 1, 1), (1, 1, 1, 1), (127, 255, 127, 127), lags))
+    return start_text(D, rng.choice(EDGE_PHASES), limits, *lags)
+
+
+def edge_shelf_lag(rng, D, P, limits, M, A, m, n):
+    """The largest lags of the shelf, under the largest rings."""
+    return start_text(D, rng.choice((255, 256)), limits, rng.choice((1, 127)), rng.choice(EDGE_SHELF_LAGS), 1, n)
+
+
+def edge_start(rng):
+    return rng.choice((edge_phases, edge_phases, edge_shelf_lag))(rng, *good_setup(rng))
 
 
 # Damaged lines
@@ -311,6 +341,7 @@ class Writer:
             placed(slots, at, self.rng.choice(free or [31])),
             placed(slots, at, slots[other]), placed(slots, at, self.slot()),
             placed(slots, at, self.rng.choice(self.kept_slots(other) or [31])),
+            placed(slots, at, (self.kept_slots(other) or [31])[0]),
             placed(placed(slots, at, slots[other]), other, slots[at]), slots[::-1]))
 
     # Scenes
@@ -416,9 +447,10 @@ class Writer:
             self.clear("drop", self.run.shelf, desk, self.run.A)
         return number
 
-    def turn_up_to(self, desk, phase):
+    def turn_up_to(self, desk, phase, share=0.3):
+        """This share of the resets is kept."""
         while self.run.own(desk)[0] < phase:
-            self.turn(desk, self.wish())
+            self.turn(desk, int(self.rng.random() < share))
 
     def make_room(self):
         self.say("drop", self.rng.randrange(32))
@@ -476,6 +508,38 @@ class Writer:
             self.keep_more(desk)
             self.picture()
         self.ask_in_turn(desks[0])
+
+    def past_the_seam(self):
+        """On a ring of 256 or 255 desks turn past its end, and what they do about it is kept and asked."""
+        D, P = self.rng.choice((2, 2, 3, 8)), self.rng.choice((256, 256, 255))
+        M = self.rng.choice((127, 127, self.rng.randint(80, 126)))
+        self.start(D, P, self.rng.choices((30, 40, 60, 200, 255), k=D), M,
+                   self.rng.choice((P - 2, P - 1, self.rng.randint(M, P - 1))),
+                   *self.rng.choice(((2, 2), (127, 127), some_reach(self.rng, P))))
+        desks = self.rng.sample(range(D), self.rng.choice((1, 1, 2)))
+        for desk in desks:
+            self.turn_up_to(desk, P - self.rng.randint(1, 2), 0.03)
+        others = [desk for desk in range(D) if desk not in desks]
+        self.pass_on([*desks, *others], self.say("send", desks[0], [*desks, *others][-1], 1))
+        for _ in range(3):
+            self.about_the_seam(desks)
+
+    def about_the_seam(self, desks):
+        """Mail of before waits while they turn, and is old when it is taken."""
+        other = (desks[0] + 1) % self.run.D
+        sent = self.say("send", desks[0], other, 1)
+        for desk in desks:
+            self.keep_more(desk)
+            self.turn(desk, 1)
+            self.ask_each_way(self.kept_slots(desk)[-2:])
+        self.tell(desks[0], other, 1)
+        self.take_sent(other, sent)
+        self.picture()
+        self.ask_at_the_edges()
+
+    def ask_each_way(self, slots):
+        for verb, two in itertools.product(("before", "compare"), itertools.permutations(slots, 2)):
+            self.say(verb, *two)
 
     def ask_in_turn(self, desk):
         """Each kept stamp of a desk beside the next."""
@@ -538,9 +602,15 @@ class Writer:
         self.use_up(bench)
 
     def rounds(self):
+        """News goes round and desks turn, at times on a small ring, so that all come round; then come pictures."""
+        if self.run.P > 5 and self.rng.random() < 0.3:
+            self.start(3, 3, some_limits(self.rng, 3), 1, 2, 1, 2)
         for _ in range(self.rng.randint(2, 8)):
             if len(self.lines) < 240:
                 self.gossip()
+        for desk in self.rng.sample(range(self.run.D), 2):
+            self.keep_more(desk)
+            self.picture()
 
     def fill_mail(self):
         for _ in range(self.rng.randint(33, 60)):
@@ -643,6 +713,12 @@ class Writer:
         for _ in range(self.rng.randint(4, 12)):
             self.write(odd_start(self.rng))
 
+    def edge_starts(self):
+        """About the ends of P and A; then any good start."""
+        for _ in range(self.rng.randint(4, 12)):
+            self.write(edge_start(self.rng))
+        self.new_start()
+
     def bad_start_text(self):
         """Start lines of other shapes and lengths."""
         for _ in range(self.rng.randint(1, 5)):
@@ -653,11 +729,12 @@ class Writer:
 
 
 SCENES = ((Writer.wander, 8), (Writer.sprint, 4), (Writer.rounds, 5), (Writer.hearsay, 3),
-          (Writer.come_round, 4), (Writer.old_mail, 4), (Writer.stocktaking, 6),
-          (Writer.fill_mail, 2), (Writer.fill_shelf, 2), (Writer.fill_both, 1), (Writer.ask, 3),
-          (Writer.resets, 5), (Writer.last_clocks, 6), (Writer.packing_bench, 1),
+          (Writer.come_round, 4), (Writer.past_the_seam, 2), (Writer.old_mail, 4),
+          (Writer.stocktaking, 6), (Writer.fill_mail, 2), (Writer.fill_shelf, 2),
+          (Writer.fill_both, 2), (Writer.ask, 3), (Writer.resets, 5),
+          (Writer.last_clocks, 6), (Writer.packing_bench, 3),
           (Writer.odd_numbers, 2), (Writer.bad_lines, 9), (Writer.bad_start, 5),
-          (Writer.bad_start_text, 2), (Writer.new_start, 1))
+          (Writer.edge_starts, 2), (Writer.bad_start_text, 2), (Writer.new_start, 1))
 
 
 # Start lines, and what the book is after each
@@ -684,6 +761,20 @@ def limited_starts():
             yield text_of("local", desk, 0)
 
 
+def ring_starts():
+    """P about both ends of its range, with A about the end of its own and with none that hangs on P."""
+    for P, A in itertools.product(EDGE_PHASES, (1, *EDGE_SHELF_LAGS)):
+        yield start_text(2, P, (4, 2), 1, A, 1, 1)
+        yield b"reset 001 001"
+    for D, lags in ((2, (127, 255, 127, 127)), (8, (127, 127, 1, 127)), (8, (1, 255, 127, 1))):
+        yield start_text(D, 256, FIXED_LIMITS[:D], *lags)
+        yield b"reset 001 001"
+        numbers = (D, 256, *FIXED_LIMITS[:D], *lags)
+        for at in range(len(numbers)):
+            yield text_of("start", *placed(numbers, at, 256))
+            yield b"reset 000 000"
+
+
 def long_starts():
     """The longest line has 61 bytes; whatever is behind it is too much, within 64 bytes and beyond."""
     for D in (8, 9):
@@ -699,7 +790,7 @@ SHORT_LISTINGS = (
     b"\n".join(b"picture" + b" 000" * count + tail for count in range(17) for tail in (b"", b" ")),
     b"start 002 003 003 003 001 001 001 001", b"start 002 003 003 003 001 001 001 001\r\n",
     b"start 256 003 003 003 001 001 001 001\nlocal 000 000\n",
-    *(b"\n".join(lines()) for lines in (counted_starts, limited_starts, long_starts)),
+    *(b"\n".join(lines()) for lines in (counted_starts, limited_starts, ring_starts, long_starts)),
     *(b"x" * length for length in (63, 64, 65, 66)),
     *(b"start 002 005 004 002 002 004 002 002\n" + b" " * length + b"local 000 001\nlocal 000 001"
       for length in (50, 51, 52, 53, 115, 116, 243, 256, 65523, 65536)),

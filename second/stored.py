@@ -14,6 +14,7 @@ Cases 4, 10 and 16 are about records, so lines say only the stamps of cases 4 an
 """
 
 import collections
+import functools
 import itertools
 import os
 import sys
@@ -113,10 +114,11 @@ FULL_SHELF_BESIDE = {
 
 
 class Writer(seeds.Writer):
-    """Writes lines of fixed calls."""
+    """Writes lines of fixed calls, and knows where each section of them begins."""
 
     def __init__(self):
         super().__init__(None)
+        self.begins = {}
 
     def raw(self, *texts):
         self.lines += texts
@@ -125,6 +127,11 @@ class Writer(seeds.Writer):
         """A start line whose number was found by hand."""
         told = self.write(text)
         require(told == number, f"{text} with {number}: line {len(self.lines)} answers {told}")
+
+    def answered(self, number, verb, *numbers):
+        """A call whose number was found by hand."""
+        told = self.say(verb, *numbers)[0]
+        require(told == number, f"{verb} with {number}: line {len(self.lines)} answers {told}")
 
     def kept(self, verb, *numbers):
         """The slot that a kept event answers."""
@@ -309,6 +316,22 @@ def case_14_to_16(w):
         w.write(text)
 
 
+def case_17_and_18(w):
+    for number, P, A in ((2, 255, 255), (2, 256, 256), (2, 257, 255), (2, 0, 255), (0, 256, 255)):
+        w.started(number, seeds.start_text(2, P, (4, 4), 127, A, 127, 127))
+    first = w.kept("local", 0)
+    turn_on(w, 0, 127)
+    w.answered(11, "reset", 0, 0)
+    w.hears(1, 0, 1)
+    turn_on(w, 0, 254)
+    w.hears(1, 0, 1)
+    last = w.kept("reset", 0)
+    w.answered(13, "reset", 0, 1)
+    w.say("drop", first)
+    nought, (_, heard) = w.kept("reset", 0), w.kept_hears(0, 1)
+    w.two_ways((last,), (nought, heard))
+
+
 # Limits of their own
 
 def last_clocks(w):
@@ -410,7 +433,8 @@ def limits_stay(w):
 
 def setups(w):
     for setup in (book.Setup(2, 3, (2, 2), 1, 1, 1, 1),
-                  book.Setup(8, 255, (255,) * 8, 127, 254, 127, 127)):
+                  book.Setup(8, 255, (255,) * 8, 127, 254, 127, 127),
+                  book.Setup(8, 256, (255,) * 8, 127, 255, 127, 127)):
         for name, (low, high) in book.RANGES.items():
             for number in (0, low, high, low - 1, high + 1, 255, 256, 999):
                 w.write(seeds.start_text(*setup._replace(**{name: number})))
@@ -460,14 +484,53 @@ START_LINES = (
 )
 
 
+# The same about the ends of P and of A: 256 is the full byte ring, and 000 is no P.
+RING_START_LINES = (
+    (2, "002 000 004 002 001 001 001 001"), (2, "002 001 004 002 001 001 001 001"),
+    (2, "002 002 004 002 001 001 001 001"), (0, "002 003 004 002 001 001 001 001"),
+    (0, "002 255 004 002 001 001 001 001"), (0, "002 256 004 002 001 001 001 001"),
+    (2, "002 257 004 002 001 001 001 001"), (2, "002 258 004 002 001 001 001 001"),
+    (2, "002 259 004 002 001 001 001 001"), (2, "002 511 004 002 001 001 001 001"),
+    (2, "002 512 004 002 001 001 001 001"), (2, "002 768 004 002 001 001 001 001"),
+    (2, "002 999 004 002 001 001 001 001"), (2, "002 000 004 002 127 255 127 127"),
+    # A is below P.
+    (0, "002 256 004 002 127 255 127 127"), (2, "002 255 004 002 127 255 127 127"),
+    (0, "002 255 004 002 127 254 127 127"), (0, "002 256 004 002 127 254 127 127"),
+    (2, "002 254 004 002 126 254 127 127"), (2, "002 256 004 002 127 256 127 127"),
+    (2, "002 255 004 002 127 256 127 127"), (2, "002 257 004 002 127 256 127 127"),
+    (0, "002 256 004 002 001 255 001 001"), (2, "002 255 004 002 001 255 001 001"),
+    (2, "002 256 004 002 001 000 001 001"), (2, "002 256 004 002 127 126 127 127"),
+    # P alone may be 256, and M, m and n are no larger for it.
+    (2, "256 256 004 002 127 255 127 127"), (2, "002 256 256 002 127 255 127 127"),
+    (2, "002 256 004 256 127 255 127 127"), (2, "002 256 004 002 256 255 127 127"),
+    (2, "002 256 004 002 127 255 256 127"), (2, "002 256 004 002 127 255 127 256"),
+    (2, "002 256 004 002 128 255 127 127"), (2, "002 256 004 002 127 255 128 127"),
+    (2, "002 256 004 002 127 255 127 128"), (2, "002 256 004 002 127 255 128 128"),
+    (2, "256 256 256 256 256 256 256 256"),
+    # What is no line is none with 256 either.
+    (17, "002 256 004 127 255 127 127"), (17, "002 256 004 002 127 255 127"), (17, "002 256"),
+    (0, "008 256 004 002 255 003 002 200 010 254 127 255 127 127"),
+    (2, "009 256 004 002 255 003 002 200 010 254 127 255 127 127"),
+)
+
+
 def start_lines(w):
-    for number, numbers in START_LINES:
+    started_by_hand(w, START_LINES)
+
+
+def ring_start_lines(w):
+    w.start(*X)
+    started_by_hand(w, RING_START_LINES)
+
+
+def started_by_hand(w, lines):
+    for number, numbers in lines:
         w.started(number, b" ".join([b"start", *numbers.encode().split()]))
         w.say("local", 1, 0)
 
 
 def more_start_lines(w):
-    for lines in (seeds.counted_starts, seeds.limited_starts, seeds.long_starts):
+    for lines in (seeds.counted_starts, seeds.limited_starts, seeds.ring_starts, seeds.long_starts):
         for text in lines():
             w.write(text)
 
@@ -832,6 +895,92 @@ def reach_of_127(w):
         w.say("drop", slot)
 
 
+def ring_of_256(w):
+    """P 256: each of two desks comes round twice, and stamps and mail of 200 lag beyond the seam."""
+    w.start(2, 256, unlike(2, 20), 127, 255, 127, 127)
+    for desk, other in ((0, 1), (1, 0)):
+        turn_on(w, desk, 199)
+        lags_beyond_the_seam(w, desk, other)
+        turn_on(w, desk, 510)
+        stamps_at_the_seam(w, desk, other)
+        w.drop_all()
+
+
+def turn_on(w, desk, phase):
+    """A desk turns to a true phase; who is too far behind is told."""
+    while w.run.own(desk)[0] < phase:
+        w.turn(desk)
+
+
+def lags_beyond_the_seam(w, desk, other):
+    """At each bound a reset is refused and before it accepted: M of a seat, 2M of mail, A of a stamp."""
+    turn = w.kept("reset", desk)
+    w.tell(desk, other)
+    place, _, sent = w.say("send", desk, other, 1)[1]
+    reach_beyond_the_seam(w, desk, other, (turn, sent))
+    turn_on(w, desk, 453)
+    w.tell(desk, other)
+    w.answered(0, "reset", desk, 0)
+    w.answered(12, "reset", desk, 0)
+    w.learns(0, other, place)
+    w.answered(0, "reset", desk, 0)
+    w.answered(13, "reset", desk, 1)
+    w.drop_all()
+    w.answered(0, "reset", desk, 0)
+
+
+def reach_beyond_the_seam(w, desk, other, kept):
+    """Differences of 126, 127 and 128 from what was kept at 200, each way; the seat lags 127."""
+    turn_on(w, desk, 325)
+    slots = [w.kept("reset", desk), w.kept("local", desk), w.kept("reset", desk), w.kept("local", desk)]
+    w.answered(11, "reset", desk, 0)
+    w.tell(desk, other)
+    slots += [w.kept("reset", desk), w.kept("local", desk)]
+    w.two_ways(kept, slots)
+
+
+def stamps_at_the_seam(w, desk, other):
+    """Phase 255 beside the 0 after it: the byte that is less is later."""
+    turn, (last, heard_last) = w.kept("reset", desk), w.kept_hears(desk, other)
+    place, nought = w.mailed(desk, other), w.kept("reset", desk)
+    sent, heard = w.kept_hears(desk, other)
+    w.learns(0, other, place, 1)
+    w.two_ways((turn, last, heard_last), (nought, sent, heard))
+    for answer, own, known in ((YES, last, heard_last), (YES, nought, heard_last), (YES, sent, heard),
+                               (odds(0, 1), turn, heard_last), (odds(0, 1), last, heard),
+                               (odds(0, 1), nought, heard)):
+        w.pictured(answer, *((own, known) if desk == 0 else (known, own)))
+
+
+def ring_of_256_at_eight(w):
+    """Eight desks pass the seam one after another; then all hear that 0 is the newest phase."""
+    w.start(8, 256, unlike(8, 30), 127, 255, 3, 3)
+    for phase in (127, 254):
+        for desk in range(8):
+            turn_on(w, desk, phase)
+        lap(w)
+        follow(w)
+    last = [w.kept("reset", desk) for desk in range(7)]
+    late = [w.mailed(desk, desk + 1) for desk in range(7)]
+    w.say("reset", 7, 0)
+    last.append(w.kept_hears(7, 0)[0])
+    nought = [w.kept("reset", desk) for desk in range(8)]
+    w.pictured(YES, *last)
+    w.pictured(YES, *nought)
+    for desk in range(8):
+        w.pictured(YES, *seeds.placed(last, desk, nought[desk]))
+        w.two_ways(last[desk:desk + 1], nought[desk:desk + 1])
+    # Who tells has heard nothing.
+    for desk in range(6, -1, -1):
+        one_told(w, last, desk, desk + 1, odds(desk, desk + 1))
+    # Each hears of all before it, and those that had not of the 255 of desk 7.
+    for desk, number in enumerate((1, 3, 4, 5, 6, 7, 7, 7)):
+        w.hears(number, desk, (desk + 1) % 8)
+    # Mail of 255 is old.
+    for desk, place in enumerate(late, 1):
+        w.learns(0, desk, place)
+
+
 def clock_of_255(w):
     w.start(8, 255, (255,) * 8, 127, 254, 127, 127)
     for _ in range(253):
@@ -1122,6 +1271,9 @@ def unended(w):
     w.say("local", 2, 1)
 
 
+# Rings as large as a byte holds them, and nearly.
+RING_SECTIONS = (ring_start_lines, case_17_and_18, ring_of_256, ring_of_255, ring_of_256_at_eight)
+
 SECTIONS = (
     no_book_yet, example, case_1_and_2, case_3_to_8, case_9, case_10,
     case_11_and_12, case_13, case_14_to_16, limits_stay, start_lines,
@@ -1130,15 +1282,17 @@ SECTIONS = (
     setups, odd_numbers, reasons_that_meet, lags_that_meet,
     bad_shapes, odd_wishes, long_lines, full_mail, full_shelf, last_slot, mail_behind,
     shelf_behind, seats_not_started_count, old_mail, all_seven, older_and_newer, rings,
-    kept_rings, ring_of_255, clock_of_255, clock_of_2, clock_of_255_beside_2, bench_and_office,
+    kept_rings, clock_of_255, clock_of_2, clock_of_255_beside_2, bench_and_office,
     nought_after_four, one_way_out_of_reach, reset_edge, resets_apart, pictures_of_rings,
-    last_clocks, all_last_clocks, more_start_lines, unended,
+    last_clocks, all_last_clocks, more_start_lines, *RING_SECTIONS, unended,
 )
 
 
+@functools.cache
 def written():
     w = Writer()
     for section in SECTIONS:
+        w.begins[section] = len(w.lines)
         section(w)
     return w
 
@@ -1171,8 +1325,12 @@ def check(w, printed):
     lengths = {len(text) for text in w.lines}
     require({0, 64, 65} <= lengths, "the lengths 0, 64 and 65")
     check_runs(w.runs)
+    check_large_rings(w.runs)
     check_limits(w.runs)
     check_starts(w.lines, listing.lines_of(printed))
+    check_ring_starts(w.lines, listing.lines_of(printed))
+    check_seam(w.lines)
+    check_seam_mail(w.runs)
     check_reach(w.runs)
     check_shelf(w.lines)
     check_learnt(w.runs)
@@ -1185,7 +1343,14 @@ def check_runs(runs):
         require(any(run.D == D and turned(run) >= 2 for run in runs),
                 f"rings come round at {D} desks")
     require(any(run.P == 3 and run.events for run in runs), "P of 3")
+
+
+def check_large_rings(runs):
     require(any(run.P == 255 and turned(run) >= 1 for run in runs), "a ring of 255")
+    require(any((run.P, run.D) == (256, 2) and turned(run) >= 2 for run in runs),
+            "a ring of 256 that comes round twice at both desks")
+    require(any((run.P, run.D) == (256, 8) and turned(run) >= 1 for run in runs),
+            "a ring of 256 that comes round at each of eight desks")
 
 
 def check_limits(runs):
@@ -1231,6 +1396,134 @@ def check_starts(lines, printed):
         require((D, count, wanted) in seen, f"D of {D} and {count} limits")
     lengths = {len(text) for text in lines if text.startswith(b"start")}
     require(set(range(57, 67)) <= lengths, "start lines of 57 to 66 bytes")
+
+
+# What start answers to P, and to P and A, at the ends of their ranges and beyond.
+RING_STARTS = {(P, 1): b"000" if P in (3, 255, 256) else b"002"
+               for P in (0, 1, 2, 3, 255, 256, 257, 512, 999)}
+RING_STARTS.update({(255, 254): b"000", (255, 255): b"002", (255, 256): b"002",
+                    (256, 254): b"000", (256, 255): b"000", (256, 256): b"002"})
+
+
+def check_ring_starts(lines, printed):
+    """P and A at the ends of their ranges, and beside a P of 256 each other number of 256."""
+    told = [(listing.parse(text), answer) for text, answer in zip(lines, printed)
+            if text.startswith(b"start")]
+    setups = [(book.Setup(*parsed[1]), answer) for parsed, answer in told if parsed]
+    seen = {(setup.P, setup.A, answer) for setup, answer in setups}
+    for (P, A), answer in RING_STARTS.items():
+        require((P, A, answer) in seen, f"P of {P} and A of {A}")
+    wide = {name for setup, answer in setups if setup.P == 256 and answer == b"002"
+            for name in wide_in(setup)}
+    wanted = {"D", "M", "A", "m", "n", *itertools.product(("limit",), range(8))}
+    require(wanted <= wide, f"beside P of 256 another 256: {wanted - wide}")
+
+
+def wide_in(setup):
+    """The number but P that is 256, where there is one alone."""
+    names = [name for name in "DMAmn" if getattr(setup, name) == 256]
+    names += [("limit", desk) for desk, limit in enumerate(setup.limits) if limit == 256]
+    return names if len(names) == 1 else []
+
+
+def under_the_full_ring(lines):
+    """Of each line in a run under P of 256: what it asks, the book and the shelf before it, and its answer."""
+    program = listing.Program()
+    for text in lines:
+        verb, numbers = listing.parse(text) or (None, ())
+        if verb == "start":
+            program.answer(text)
+        elif verb and program.run and program.run.P == 256:
+            yield verb, numbers, program.book, list(program.run.shelf), program.answer(text)
+
+
+# On both sides of the seam: a question, the phase it goes from and the other's, and the answer.
+SEAM_QUESTIONS = {("before", 255, 0, "000 yes"), ("before", 0, 255, "000 no"),
+                  ("compare", 255, 0, "000 before"), ("compare", 0, 255, "000 after")}
+
+# With m and n of 127, by the difference and whether it goes from a reset: the number.
+SEAM_REACH = {(126, False): 0, (126, True): 0, (127, False): 16, (127, True): 16,
+              (-126, False): 0, (-126, True): 0, (-127, False): 16, (-127, True): 0,
+              (-128, False): 16, (-128, True): 16}
+
+# With M of 127 and A of 255, beyond the seam: the kind of row, how far it lags, and what a reset answers.
+SEAM_LAGS = {("seat", 126, 0), ("seat", 127, 11), ("mail", 253, 0), ("mail", 254, 12),
+             ("slot", 254, 0), ("slot", 255, 13)}
+
+SeamFacts = collections.namedtuple("SeamFacts", "questions reaches pictures resets")
+
+
+def seam_facts(lines):
+    """Under P of 256 what is asked and answered about 255 and 0."""
+    facts = SeamFacts(set(), set(), set(), set())
+    for verb, numbers, given, shelf, answer in under_the_full_ring(lines):
+        number = int(answer[:3])
+        if verb in listing.QUESTIONS and number in (0, 16):
+            two = [shelf[slot] for slot in numbers]
+            facts.questions.add((verb, *(event.pairs[two[0].desk][0] % 256 for event in two), answer))
+            facts.reaches.update(reach_beyond(verb, number, *two))
+        elif verb == "picture" and number == 0:
+            facts.pictures.add((len(numbers), across([shelf[slot] for slot in numbers]), answer))
+        elif verb == "reset" and number != book.NO_DESK:
+            facts.resets.update((numbers[0], *lag, number) for lag in lags_beyond(given, numbers[0]))
+    return facts
+
+
+def check_seam(lines):
+    """Questions, their reach, pictures and resets, each from 255 to 0."""
+    facts = seam_facts(lines)
+    require(SEAM_QUESTIONS <= facts.questions, f"of 255 and 0 {SEAM_QUESTIONS - facts.questions}")
+    wanted = {(d, is_reset, number) for (d, is_reset), number in SEAM_REACH.items()}
+    require(wanted <= facts.reaches, f"beyond the seam the reach at {wanted - facts.reaches}")
+    wanted = {(D, True, answer) for D in (2, 8) for answer in ("000 yes", "000 000 001")}
+    require(wanted <= facts.pictures, f"of 255 and 0 the pictures {wanted - facts.pictures}")
+    wanted = {(desk, *lag) for desk in (0, 1) for lag in SEAM_LAGS}
+    require(wanted <= facts.resets, f"resets where beyond the seam lag {wanted - facts.resets}")
+
+
+def reach_beyond(verb, number, e, f):
+    """The difference that before asks, where one of the two phases has come round once more."""
+    other = f.pairs[e.desk][0]
+    if verb == "before" and e.phase // 256 != other // 256:
+        yield other - e.phase, e.is_reset, number
+
+
+def across(chosen):
+    """Has some desk's entry 255 in one row and 0 in another?"""
+    return any({255, 0} <= {phase % 256 for phase, _ in column}
+               for column in zip(*(event.pairs for event in chosen)))
+
+
+def lags_beyond(given, desk):
+    """The largest lags behind a desk of each kind of row, where the byte that lags is the larger."""
+    own = given[book.own_entry(desk)]
+    rooms = (("seat", book.SEAT_AT, book.MAIL_AT), ("mail", book.MAIL_AT, book.SHELF_AT),
+             ("slot", book.SHELF_AT, book.BOOK_BYTES))
+    for kind, start, end in rooms:
+        records = [record for record in range(start, end, book.RECORD_BYTES) if given[record + 2]]
+        lags = [book.lag_in(given, record, desk) for record in records]
+        if lags and max(lags) > own:
+            yield kind, max(lags)
+
+
+def check_seam_mail(runs):
+    """Under P of 256 mail that tells of 0 where 255 is held, and of 255 where 0 is."""
+    seen = {(run.D, held[0] % 256, told[0] % 256, changed)
+            for run in runs if run.P == 256
+            for held, told, changed in told_pairs(run)}
+    for D in (2, 8):
+        for held, told, changed in ((255, 0, True), (0, 255, False)):
+            require((D, held, told, changed) in seen, f"mail of {told} where {held} is held at {D} desks")
+
+
+def told_pairs(run):
+    """Of each receipt for each other desk: the pair held, the one in the mail, and whether it was taken."""
+    for event in run.events:
+        if event.mail and event.before:
+            rows = zip(event.before.pairs, event.mail.pairs, event.pairs)
+            for desk, (held, told, taken) in enumerate(rows):
+                if desk != event.desk:
+                    yield held, told, taken != held
 
 
 def check_reach(runs):

@@ -4,8 +4,8 @@ The example and the cases of docs/RULES.md; that every clock goes by the limit o
 its column's desk; that the reach in phases is the reach by resets; that a kept
 event without a slot is refused whole and no call answers NoEvent; how much mail
 tells; pictures by hand, by sets of events and by ordinary vectors; that the fixed
-seeds and the stored listing find each error the desks would make; and that the
-runners report.
+seeds and the stored listing find each error the desks would make; the full byte
+ring and the one of 255 at their ends; and that the runners report.
 """
 
 import collections
@@ -122,10 +122,18 @@ class Cases(unittest.TestCase):
         self.assertEqual(calls(fresh(), *two, ("reset", 0, 0))[0], book.SEAT_BEHIND)
 
     def test_the_lag_is_the_remainder_of_phases_of_the_ring(self):
-        for P in range(3, 256):
+        for P in range(3, 257):
             for own in range(P):
                 self.assertEqual([book.lag_behind(own, v, P) for v in range(P)],
                                  [(own - v) % P for v in range(P)])
+
+    def test_the_lag_grows_by_one_as_its_desk_turns(self):
+        """Until it would be P: then it is 0 again."""
+        for P in (3, 4, 5, 128, 254, 255, 256):
+            for own in range(P):
+                turned = book.next_phase(own, P)
+                self.assertEqual([book.lag_behind(turned, v, P) for v in range(P)],
+                                 [(book.lag_behind(own, v, P) + 1) % P for v in range(P)])
 
     def test_9_later_is_the_smaller_lag(self):
         given = bytearray(fresh())
@@ -363,6 +371,246 @@ def full_in(lines):
                (limits[desk] > following) - (limits[desk] < following))
 
 
+# The full byte ring, and the largest that is not.
+
+FULL = book.Setup(2, 256, (20, 21), 127, 255, 127, 127)
+NEARLY = FULL._replace(P=255, A=254)
+
+
+def hears(desk, to):
+    """Send, and receive at once; no other mail waits."""
+    return [("send", desk, to, 0), ("receive", to, 0, 0)]
+
+
+def turns(desk, count):
+    return [("reset", desk, 0)] * count
+
+
+def turned_to_255(keep=0):
+    """The full ring's book when desk 0 has turned to 255 and the other has heard it at 127 and at 254."""
+    steps = [*turns(0, 127), *hears(0, 1)] * 2
+    return calls(fresh(FULL), *steps, ("reset", 0, keep))[2]
+
+
+class FullRing(unittest.TestCase):
+    def test_the_lag_is_one_byte_subtraction(self):
+        """It comes round on its own, and is what the handbook has."""
+        for own, v in itertools.product(range(256), repeat=2):
+            byte = int.from_bytes((own - v).to_bytes(2, "little", signed=True)[:1], "little")
+            handbook = own - v if own >= v else own + 256 - v
+            self.assertEqual((book.lag_behind(own, v, 256), handbook), (byte, byte))
+
+    def test_the_phase_after_255_is_0(self):
+        self.assertEqual([book.next_phase(phase, 256) for phase in range(256)], [*range(1, 256), 0])
+        self.assertEqual([book.next_phase(phase, 255) for phase in range(255)], [*range(1, 255), 0])
+
+    def test_the_bytes_of_a_fresh_book(self):
+        """The header's byte is 0 for 256, and P for any other."""
+        for P, byte in ((256, 0), (255, 255), (3, 3)):
+            setup = FULL._replace(P=P, M=1, A=2, m=1, n=2)
+            seats = b"SE\0\x14" + bytes(16) + b"SE\0\x15" + bytes(16) + (b"SE" + bytes(18)) * 6
+            made = b"BK" + bytes((2, byte, 0, 1, 2, 1, 2)) + bytes(7) + seats + FREE_ROOMS
+            self.assertEqual(book.start(b"\xff" * 1456, *setup), (0, (), made))
+            self.assertEqual(line.Run(*setup).book(), made)
+            self.assertEqual(book.setup_of(made), setup)
+            self.assertTrue(book.sound(made))
+
+    def test_permitted(self):
+        """By start, off the book and on the line alike: P to 256 and A below it."""
+        for P in raw.RING_NUMBERS:
+            self.asked(FULL._replace(P=P, M=1, A=1, m=1, n=1), 3 <= P <= 256)
+            self.asked(FULL._replace(P=P), P == 256)
+            self.asked(NEARLY._replace(P=P), 255 <= P <= 256)
+        for A in (0, 1, 126, *raw.SHELF_LAGS):
+            self.asked(FULL._replace(A=A), 127 <= A <= 255)
+            self.asked(NEARLY._replace(A=A), 127 <= A <= 254)
+            self.asked(FULL._replace(M=1, A=A, m=1, n=1), 1 <= A <= 255)
+        for name, number in itertools.product("Mmn", (0, 1, 127, 128, 255, 256)):
+            self.asked(FULL._replace(**{name: number}), 1 <= number <= 127)
+        for odd in ({"D": 256}, {"D": 258}, {"limits": (256, 2)}, {"limits": (2, 256)}):
+            self.asked(FULL._replace(**odd), False)
+
+    def asked(self, setup, good):
+        self.assertEqual(book.start(bytes(book.BOOK_BYTES), *setup)[0], 0 if good else 2, setup)
+        self.assertEqual(line.permitted(*setup), good, setup)
+        self.assertEqual(book.label_compare(setup, b"", b"")[0], 14 if good else 2, setup)
+
+    def test_every_byte_of_P(self):
+        """1 and 2 alone are no P; with the largest lags 0 alone is one, or 0 and 255."""
+        smallest = fresh(FULL._replace(P=3, M=1, A=1, m=1, n=1))
+        for given, good in ((smallest, {*range(256)} - {1, 2}), (fresh(FULL), {0}), (fresh(NEARLY), {0, 255})):
+            sound = {byte for byte in range(256) if book.sound(raw.with_byte(given, 3, byte))}
+            self.assertEqual(sound, good)
+
+    def test_every_phase_in_every_kind_of_row(self):
+        """Under both rings and at each own phase, by how far it lags; on a ring of 255 there is no 255."""
+        rng = random.Random(4)
+        for setup, kind, own in itertools.product((FULL, NEARLY), raw.ROWS, (0, 1, 127, 128, 253, 254)):
+            most = raw.ROWS[kind][1](setup)
+            for phase in range(256):
+                given = raw.uneven_book(rng, setup, [own, 9], 0, kind, phase)
+                good = phase < setup.P and (own - phase) % setup.P <= most
+                self.assertEqual(book.sound(given), good, (setup.P, kind, own, phase))
+        for setup, good in ((FULL, True), (NEARLY, False)):
+            self.assertEqual(book.sound(raw.level_book(setup, [255, 9])), good)
+
+    def test_every_phase_in_a_record(self):
+        for setup, column, phase in itertools.product((FULL, NEARLY), (0, 1), range(256)):
+            pairs = seeds.placed([(3, 1), (3, 1)], column, (phase, 1))
+            read = book.read_stamp(setup, label(0, *pairs, setup=setup))
+            self.assertEqual(read is not None, phase < setup.P)
+
+    def test_a_record_does_not_say_its_ring(self):
+        """From 254 to 0 it is two phases on a ring of 256, one on a ring of 255."""
+        e, f = (label(0, (phase, 1), (0, 0), setup=FULL) for phase in (254, 0))
+        for reach, full, nearly in (((2, 2), (16, ()), (0, ("before",))), ((3, 3), *[(0, ("before",))] * 2)):
+            setups = (setup._replace(m=reach[0], n=reach[1]) for setup in (FULL, NEARLY))
+            self.assertEqual([book.label_compare(setup, e, f) for setup in setups], [full, nearly])
+        last = label(0, (255, 1), (0, 0), setup=FULL)
+        self.assertEqual(book.label_compare(FULL, last, f), (0, ("before",)))
+        self.assertEqual(book.label_compare(FULL, f, last), (0, ("after",)))
+        self.assertEqual(book.label_newest(FULL, last, f), (0, (2,)))
+        self.assertEqual(book.label_compare(NEARLY, last, f), (book.BAD_STAMP, ()))
+
+    def test_the_reach_off_the_book(self):
+        """126 ahead, and back 126, or 127 from a reset; the two of 256 between are out of reach."""
+        for phase, clock in itertools.product((0, 1, 128, 254, 255), (0, 1)):
+            e = book.Stamp(0, bytes((phase, clock)) + bytes(14))
+            told = [book.difference_off_book(FULL, e, book.Stamp(1, bytes(((phase + r) % 256,)) + bytes(15)))
+                    for r in range(256)]
+            self.assertEqual(told[:127], [*range(127)])
+            self.assertEqual(told[127:130], [None, None, -127 if clock == 0 else None])
+            self.assertEqual(told[130:], [*range(-126, 0)])
+
+    def test_a_desk_turns_past_255(self):
+        given = turned_to_255(1)
+        self.assertEqual(given[3], 0)
+        self.assertEqual(given[book.own_entry(0)], 255)
+        number, (stamp, slot), after = calls(given, ("reset", 0, 1))
+        self.assertEqual((number, stamp.row, slot), (0, bytes((0, 0, 0, 0)) + bytes(12), 1))
+        for verb, first, second, value in (("before", 0, 1, True), ("before", 1, 0, False),
+                                           ("compare", 0, 1, "before"), ("compare", 1, 0, "after")):
+            self.assertEqual(getattr(book, verb)(after, first, second)[:2], (0, (value,)))
+
+    def test_mail_of_0_is_later_than_mail_of_255(self):
+        given = calls(turned_to_255(), ("send", 0, 1, 0), ("reset", 0, 0), ("send", 0, 1, 0))[2]
+        _, (stamp, learnt), after = calls(given, ("receive", 1, 0, 0), ("receive", 1, 1, 0))
+        self.assertEqual((stamp.row[:2], learnt), (bytes((0, 1)), 1))
+        _, (stamp, learnt), other = calls(given, ("receive", 1, 1, 0), ("receive", 1, 0, 0))
+        self.assertEqual((stamp.row[:2], learnt), (bytes((0, 1)), 0))
+        self.assertEqual(after, other)
+
+    def test_lags_beyond_the_seam(self):
+        """A reset is refused where a seat lags 127, mail 254 or a stamp 255, and not where they lag one less."""
+        rng = random.Random(4)
+        for own, (kind, (number, bound)) in itertools.product((0, 1, 9, 253, 255), raw.ROWS.items()):
+            for more in (-1, 0):
+                lag = bound(FULL) + more
+                given = raw.uneven_book(rng, FULL, [own, 7], 0, kind, (own - lag) % 256)
+                self.assertEqual(book.reset(given, 0, 0)[0], 0 if more else number)
+                self.assertEqual(book.reset(given, 1, 0)[0], 0)
+
+    def test_a_stamp_of_255_phases_ago(self):
+        """By turns from 0 to 255: at 254 a reset is accepted, at 255 not; dropped, it is."""
+        given = calls(fresh(FULL), ("local", 1, 1), *[*turns(0, 127), *hears(0, 1)] * 2)[2]
+        number, _, given = book.reset(given, 0, 0)
+        self.assertEqual((number, given[book.own_entry(0)]), (0, 255))
+        self.assertEqual(book.reset(given, 0, 0), (book.SHELF_BEHIND, (), given))
+        number, _, given = calls(given, ("drop", 0), ("reset", 0, 0))
+        self.assertEqual((number, given[book.own_entry(0)]), (0, 0))
+
+    def test_lines_by_hand(self):
+        for number, numbers in stored.RING_START_LINES:
+            text = b" ".join([b"start", *numbers.encode().split()])
+            self.assertEqual(listing.answers(text), b"%03d\n" % number, text)
+        lines = b"start 002 256 004 004 127 255 127 127\n" + b"reset 000 000\n" * 128
+        lines += b"send 000 001 000\nreceive 001 000 000\n" + b"reset 000 000\n" * 128
+        lines += b"send 000 001 001\nreceive 001 000 000\n" + b"reset 000 001\n" * 2
+        lines += b"compare 000 002\ncompare 002 000\ncompare 001 002\n"
+        printed = listing.lines_of(listing.answers(lines))
+        self.assertEqual(printed[127:132], [
+            b"000 000 127.000 000.000", b"011", b"000 000 000 127.001 000.000",
+            b"000 001 127.001 000.001 001", b"000 000 128.000 000.000"])
+        self.assertEqual(printed[-8:], [
+            b"011", b"000 000 000 254.001 000.000 000", b"000 001 254.001 000.002 001",
+            b"000 000 255.000 000.000 001", b"000 000 000.000 000.000 002",
+            b"000 before", b"000 after", b"000 before"])
+
+    def test_the_check_misses_each_ring(self):
+        runs = stored.written().runs
+        stored.check_large_rings(runs)
+        for P, D in ((256, 2), (256, 8), (255, 2)):
+            with self.assertRaises(AssertionError):
+                stored.check_large_rings([run for run in runs if (run.P, run.D) != (P, D)])
+
+    def test_the_check_misses_what_is_asked_at_the_seam(self):
+        """Two desks alone are not enough, nor starts without each P and A."""
+        lines, _ = zip(*stored_between(stored.ring_of_256, stored.ring_of_255))
+        with self.assertRaises(AssertionError):
+            stored.check_seam(lines)
+        with self.assertRaises(AssertionError):
+            stored.check_seam_mail([run for run in stored.written().runs if run.D == 2])
+        starts = [one for one in stored_lines() if one[0].startswith(b"start")]
+        stored.check_ring_starts(*zip(*starts))
+        for P, A in stored.RING_STARTS:
+            with self.assertRaises(AssertionError):
+                stored.check_ring_starts(*zip(*(one for one in starts if not starts_with(one[0], P, A))))
+
+    def test_seeds_start_and_pass_the_full_ring(self):
+        runs = [run for seed in range(1, 101) for run in written(seed).runs]
+        full = [run for run in runs if run.P == 256]
+        self.assertGreater(10 * len(full), len(runs))
+        self.assertLessEqual({2, 3, 8}, {run.D for run in full})
+        self.assertLessEqual({1, 254, 255}, {run.A for run in full})
+        for P in (255, 256):
+            self.assertTrue(any(passes(seed, P) for seed in range(1, 101)))
+
+    def test_seeds_ask_beyond_the_seam(self):
+        """Questions of 255 and 0 both ways, and mail of either where the other is held."""
+        questions, mail = set(), set()
+        for seed in (seed for seed in range(1, 101) if passes(seed, 256)):
+            questions |= stored.seam_facts([one.text for one in told(seed)]).questions
+            mail |= {(held[0] % 256, pair[0] % 256, changed) for run in written(seed).runs if run.P == 256
+                     for held, pair, changed in stored.told_pairs(run)}
+        self.assertLessEqual(stored.SEAM_QUESTIONS, questions)
+        self.assertLessEqual({(255, 0, True), (0, 255, False)}, mail)
+
+    def test_seeds_start_at_the_ends_of_P_and_A(self):
+        seen = {(setup.P, setup.A, one.answer) for seed in range(1, 101) for one in told(seed)
+                if one.text.startswith(b"start") for setup in setups_in(one.text)}
+        phases = {(P, answer) for P, _, answer in seen}
+        self.assertLessEqual({(P, answer) for (P, A), answer in stored.RING_STARTS.items() if A == 1}, phases)
+        self.assertLessEqual({(P, A, answer) for (P, A), answer in stored.RING_STARTS.items() if A > 1}, seen)
+
+
+def setups_in(text):
+    """The setup of a start line."""
+    verb, numbers = listing.parse(text) or (None, ())
+    return [book.Setup(*numbers)] if verb == "start" else []
+
+
+def starts_with(text, P, A):
+    return any((setup.P, setup.A) == (P, A) for setup in setups_in(text))
+
+
+def passes(seed, P):
+    """Does a desk in some run of a seed come round on a ring of P?"""
+    return any(run.P == P and max(run.own(desk)[0] for desk in range(run.D)) >= P
+               for run in written(seed).runs)
+
+
+def stored_between(section, following):
+    """The stored lines and answers from where one section begins to where another does."""
+    begins = stored.written().begins
+    return list(stored_lines())[begins[section]:begins[following]]
+
+
+@functools.cache
+def ring_lines():
+    """Those about the largest rings, which begin with a start."""
+    return stored_between(stored.RING_SECTIONS[0], stored.unended)
+
+
 # Kept events, under a setup by which 32 of them go on the shelf.
 
 ROOMY = book.Setup(3, 11, (255, 255, 255), 5, 9, 3, 3)
@@ -418,7 +666,7 @@ class Keeping(unittest.TestCase):
     def test_full_shelf_comes_before_lags_where_it_is_kept(self):
         rng = random.Random(10)
         for number in (book.SEAT_BEHIND, book.MAIL_BEHIND, book.SHELF_BEHIND):
-            content, (desk,) = raw.answered(rng, "reset", number)
+            content, (desk,) = raw.answered(rng, "reset", number, raw.any_setup)
             full = raw.shelf_with(rng, content, desk, 0)
             self.assertEqual(book.reset(full, desk, 0)[0], number)
             self.assertEqual(book.reset(full, desk, 1), (book.SHELF_FULL, (), full))
@@ -730,7 +978,8 @@ class Reach(unittest.TestCase):
         seen = set()
         for seed in range(1, 101):
             for run in written(seed).runs:
-                for e in run.events:
+                # Of a long run its end is enough.
+                for e in run.events[-120:]:
                     seen |= self.hold(run, e)
         edges = itertools.product((False, True), ("back", "ahead"), (-1, 0, 1))
         self.assertLessEqual(set(edges), seen)
@@ -835,7 +1084,7 @@ TRUE = {name: getattr(book, name) for name in
          "used_place_sound", "reach", "compare", "label_compare", "difference_on_book",
          "difference_off_book", "permitted", "limited", "start", "fresh_head", "sound",
          "read_both", "read_stamp", "picture", "picture_number", "chosen_number", "at_odds",
-         "knows_more")}
+         "knows_more", "lag_behind", "next_phase", "phases_told", "phases_byte")}
 
 
 def lag_without_adding_P(own, phase, P):
@@ -1256,6 +1505,110 @@ def with_the_headers(given):
     return without_the_headers(given)
 
 
+# The full byte ring, and the one of 255
+
+def nought_is_no_ring(byte):
+    return byte
+
+
+def nought_is_a_ring_of_255(byte):
+    return 255 if byte == 0 else byte
+
+
+def a_ring_written_as(byte):
+    """An error: the header's byte for 256 is another."""
+    def phases_byte(P):
+        return byte if P == 256 else TRUE["phases_byte"](P)
+    return named("phases_byte", phases_byte, f"256 as {byte}")
+
+
+def no_255_in_a_book(row, setup, own, most):
+    return 255 not in row[:2 * setup.D:2] and TRUE["row_sound"](row, setup, own, most)
+
+
+def no_255_in_rows(name):
+    """An error: in one kind of row no phase is 255."""
+    def part(given):
+        with mock.patch.object(book, "row_sound", no_255_in_a_book):
+            return TRUE[name](given)
+    return named(name, part, "no 255")
+
+
+def no_255_in_a_record(setup, record):
+    return None if 255 in record[4:4 + 2 * setup.D:2] else TRUE["read_stamp"](setup, record)
+
+
+def with_ring(name, phases, what):
+    """An error: a part takes a setup with the P that is made of the one given."""
+    def start(given, D, P, *rest):
+        return TRUE["start"](given, D, phases(P), *rest)
+
+    def read_both(setup, *labels):
+        D, P, *rest = setup
+        return TRUE["read_both"]((D, phases(P), *rest), *labels)
+    return named(name, {"start": start, "read_both": read_both}[name], what)
+
+
+def ring_modulo(name, size):
+    return with_ring(name, lambda P: P % size, f"P modulo {size}")
+
+
+def nought_taken_for_256(name):
+    return with_ring(name, lambda P: P or 256, "0 for 256")
+
+
+def any_nought_byte_is_256(name):
+    return with_ring(name, lambda P: P if P % 256 else 256, "whatever ends in a byte of 0 for 256")
+
+
+def A_below(most):
+    """An error: A has to be smaller than this, too."""
+    def permitted(setup):
+        return TRUE["permitted"](setup) and setup[4] < most
+    return named("permitted", permitted, f"A below {most}")
+
+
+def A_of_255_is_any_rings(setup):
+    """It is permitted with P of 255, too."""
+    D, P, limits, M, A, *reach = setup
+    return TRUE["permitted"]((D, P, limits, M, 254 if P == 255 == A else A, *reach))
+
+
+def lag_on(P, other, what):
+    """An error: on one ring the lag is another."""
+    def lag_behind(own, phase, phases):
+        return other(own, phase) if phases == P else TRUE["lag_behind"](own, phase, phases)
+    return named("lag_behind", lag_behind, what)
+
+
+def after(P, phase, following):
+    """An error: on one ring another phase follows one."""
+    def next_phase(before, phases):
+        return following if (phases, before) == (P, phase) else TRUE["next_phase"](before, phases)
+    return named("next_phase", next_phase, f"{following} after {phase} of {P}")
+
+
+RING_ERRORS = (
+    ("phases_told", nought_is_no_ring), ("phases_told", nought_is_a_ring_of_255),
+    *map(a_ring_written_as, (1, 2, 3, 255)), ("row_sound", no_255_in_a_book),
+    *map(no_255_in_rows, ("seats_sound", "mail_sound", "shelf_sound")),
+    ring_modulo("start", 256), nought_taken_for_256("start"), any_nought_byte_is_256("start"),
+    A_below(255), ("permitted", A_of_255_is_any_rings),
+    lag_on(256, lambda own, phase: own - phase if own >= phase else own + 255 - phase, "255 is added"),
+    lag_on(256, lambda own, phase: (own - phase) % 255, "modulo 255"),
+    lag_on(256, lambda own, phase: abs(own - phase), "never round"),
+    lag_on(255, lambda own, phase: (own - phase) % 256, "a byte's on a ring of 255"),
+    after(256, 255, 255), after(256, 255, 1), after(256, 254, 0), after(255, 254, 1),
+)
+
+# These need records, or a number that no line has.
+RAW_RING_ERRORS = (
+    ("read_stamp", no_255_in_a_record),
+    *(ring_modulo(name, 2**bits) for name in ("start", "read_both") for bits in (16, 32, 63)),
+    ring_modulo("read_both", 256), nought_taken_for_256("read_both"), any_nought_byte_is_256("read_both"),
+)
+
+
 # Start lines
 
 TRUE_SETUP_IN = listing.setup_in
@@ -1653,6 +2006,13 @@ def the_sender_alone_is_counted(desks, event):
     return counts
 
 
+def permitted_below_256(D, P, *rest):
+    return P != 256 and TRUE_ON_THE_LINE(D, P, *rest)
+
+
+TRUE_ON_THE_LINE = line.permitted
+
+
 def left_by_the_first(run, desk):
     return run.limits[0] - 1 - run.own(desk)[1]
 
@@ -1662,6 +2022,7 @@ def left_by_the_smallest(run, desk):
 
 
 SET_ERRORS = (
+    (line, "permitted", permitted_below_256),
     (line.Run, "left", left_by_the_first), (line.Run, "left", left_by_the_smallest),
     (line, "learnt", all_behind_count), (line, "learnt", the_receiver_counts),
     (line, "learnt", events_count), (line, "causes_of", the_next_causes_alone),
@@ -1691,6 +2052,22 @@ class Errors(unittest.TestCase):
         for part, name, error in (*in_book(ERRORS), *LINE_ERRORS):
             found = any(is_found(part, name, error, told(seed)) for seed in range(1, 101))
             self.assertTrue(found, error.__name__)
+
+    def test_the_stored_rings_find_each(self):
+        for name, error in RING_ERRORS:
+            self.assertTrue(is_found(book, name, error, ring_lines()), error.__name__)
+
+    def test_seeds_find_each_of_the_rings(self):
+        seeds_of_rings = sorted(range(1, 101), key=lambda seed: not (passes(seed, 256) or passes(seed, 255)))
+        for name, error in RING_ERRORS:
+            found = any(is_found(book, name, error, told(seed)) for seed in seeds_of_rings)
+            self.assertTrue(found, error.__name__)
+
+    def test_the_two_routes_disagree_on_rings(self):
+        for name, error in RING_ERRORS:
+            with mock.patch.object(book, name, error), \
+                    self.assertRaises(listing.Disagree, msg=error.__name__):
+                listing.answers(b"\n".join(text for text, _ in ring_lines()))
 
     def test_the_two_routes_disagree(self):
         data = stored_listing()[0]
@@ -1882,7 +2259,7 @@ def told_of_shelf(trial):
 
 def ages_of(content, record):
     """Of each pair the lag as a remainder and the clock below 0; its phase goes with them."""
-    row, own, P = book.row_at(content, record), book.own_phases(content), content[3]
+    row, own, P = book.row_at(content, record), book.own_phases(content), book.setup_of(content).P
     pairs = zip(own[:content[2]], row[::2], row[1::2])
     return [((now - phase) % P, -clock, phase) for now, phase, clock in pairs]
 
@@ -1896,7 +2273,31 @@ def told_of_mail(trial):
     apart = [kind * (told[2] - held[2]) for kind, (held, told) in zip(kinds, pairs)]
     own = kinds.pop(desk)
     del apart[desk]
-    return raw.answer_of(*trial)[2][1], kinds, own, content[3] - 1 in apart
+    return raw.answer_of(*trial)[2][1], kinds, own, book.setup_of(content).P - 1 in apart
+
+
+def unkept(trial):
+    """The number of an event if its stamp were not kept, nor asked for room."""
+    name, arguments = trial
+    (*numbers, _), (given, *_) = raw.parted(arguments)
+    return getattr(book, name)(given.content(), *numbers, 0)[0]
+
+
+def told_of_lag(trial):
+    """P, M, A and the own phase of a desk that resets."""
+    (desk, _), (given, *_) = raw.parted(trial[1])
+    setup = book.setup_of(given.content())
+    return setup.P, setup.M, setup.A, given.content()[book.own_entry(desk)]
+
+
+def told_of_reach(trial):
+    """P, m and n; whether it goes from a reset, from which phase and how far round; and the difference."""
+    numbers, (limits, *labels, _) = raw.parted(trial[1])
+    setup = book.Setup(*raw.setup_in(numbers, limits.content()))
+    e, f = (book.read_stamp(setup, label.content()) for label in labels)
+    phase, other = (stamp.row[2 * e.owner] for stamp in (e, f))
+    return (setup.P, setup.m, setup.n, book.is_reset(e), phase, (other - phase) % setup.P,
+            book.difference_off_book(setup, e, f))
 
 
 def told_of_clock(first, second):
@@ -1923,38 +2324,129 @@ def told_of_picture(trial):
     return len(rows), kinds, raw.answer_of(*trial)[2]
 
 
+def in_batches(asked, size):
+    return [asked[at:at + size] for at in range(0, len(asked), size)]
+
+
 class Raw(unittest.TestCase):
     @classmethod
     def setUpClass(cls):
         """The same calls for every library, made once; all kinds in each batch, so that errors are soon found."""
         asked = list(itertools.chain.from_iterable(raw.batches(raw.DEFAULT_CALLS, 1)))
         random.Random(1).shuffle(asked)
-        cls.batches = [asked[at:at + raw.BATCH] for at in range(0, len(asked), raw.BATCH)]
+        cls.batches = in_batches(asked, raw.BATCH)
+        # Few at a time find an error sooner; those of rings go by a P outside of 3 to 254.
+        cls.few = in_batches(asked, 50)
+        cls.few_of_rings = in_batches([one for one in asked if raw.phases_of(one) not in range(3, 255)], 50)
+        cls.seen = cls.compare(stand_in_library())
 
-    def compare(self, library):
-        with mock.patch.object(raw, "batches", lambda *_: self.batches):
+    @classmethod
+    def compare(cls, library, batches=None):
+        with mock.patch.object(raw, "batches", lambda *_: batches or cls.batches):
             return raw.compare(library, raw.DEFAULT_CALLS, 1)
 
     def test_every_number_of_every_call(self):
-        seen = self.compare(stand_in_library())
+        seen = self.seen.answers
         for name, numbers in POSSIBLE.items():
             self.assertEqual({key[1] for key in seen if key[0] == name}, numbers, name)
+            # Under P of 256, too, but for those that hang on lengths alone.
+            by_lengths = {book.NO_ROOM, book.BAD_BOOK} if name == "start" else {book.NO_ROOM}
+            full = {key[1] for key in seen if key[0] == name and key[3]}
+            self.assertEqual(full - by_lengths, numbers - by_lengths, name)
         for name in ("compare", "label_compare"):
             self.assertEqual({key[2] for key in seen if key[:2] == (name, 0)}, {1, 2, 3, 4, 5})
         self.assertEqual({key[2] for key in seen if key[:2] == ("receive", 0)}, set(range(8)))
         self.assertEqual({key[2] for key in seen if key[:2] == ("picture", 0)},
                          {(), *itertools.combinations(range(8), 2)})
 
-    def found(self, library, *parts):
+    def found(self, library, *parts, batches=None):
         with contextlib.redirect_stdout(io.StringIO()) as told:
-            self.assertIsNone(self.compare(library))
+            self.assertIsNone(self.compare(library, batches))
         for part in parts:
             self.assertIn(part, told.getvalue())
 
     def test_each_error_is_found(self):
-        for name, error in RAW_ERRORS:
-            with self.subTest(error.__name__):
-                self.found(stand_in_library(**{name: error}), "differs", "second", "library")
+        for errors, batches in ((RAW_ERRORS, self.few), (RING_ERRORS + RAW_RING_ERRORS, self.few_of_rings)):
+            for name, error in errors:
+                with self.subTest(error.__name__):
+                    self.found(stand_in_library(**{name: error}), "differs", "second", "library", batches=batches)
+
+    def test_every_phase_is_read_in_every_kind_of_row(self):
+        """Of the right books alone, so that a ring of 255 has no 255."""
+        kinds = *raw.ROWS, "record"
+        self.assertEqual(self.seen.phases,
+                         {(P, kind, phase) for P in (255, 256) for kind in kinds for phase in range(P)})
+
+    def test_books_with_every_phase(self):
+        """All are sound, and each has every phase of its ring in its slots."""
+        for P, turn in itertools.product(raw.LARGE_RINGS, range(8)):
+            given = raw.every_phase_book(random.Random(turn), P, turn)
+            self.assertTrue(book.sound(given))
+            rows = (given[at + 4:at + 20:2] for at in range(book.SHELF_AT, book.BOOK_BYTES, 20))
+            self.assertEqual({*itertools.chain(*rows)}, {*range(P)})
+
+    def test_phase_255_in_each_kind_of_row(self):
+        """In fours: on a ring of 256 a seat, mail and slot with it are sound, and so is an own one."""
+        numbers = [raw.answer_of(*trial)[0] for trial in raw.last_phase_trials(random.Random(3))]
+        self.assertNotIn(book.BAD_BOOK, numbers[:32])
+        self.assertEqual({*numbers[32:]}, {book.BAD_BOOK})
+
+    def test_lags_about_their_bounds_at_the_seam(self):
+        """In threes: accepted, refused by that kind of row, and not sound unless that lag has come round."""
+        seen, numbers = set(), []
+        for trial in raw.seam_lag_trials(random.Random(3)):
+            numbers.append(unkept(trial))
+            if len(numbers) == 3:
+                seen.add((*told_of_lag(trial), tuple(numbers)))
+                numbers = []
+        for (P, M, A), (kind, (number, bound)), own in itertools.product(
+                raw.SEAM_LAGS, raw.ROWS.items(), raw.SEAM_PHASES):
+            most = bound(book.Setup(2, P, (2, 2), M, A, 1, 1))
+            if own < P:
+                beyond = book.DONE if most == P - 1 else book.BAD_BOOK
+                self.assertIn((P, M, A, own, (0, number, beyond)), seen, kind)
+
+    def test_bytes_for_P(self):
+        """1 and 2 make no sound book, 0 and any other do where the book keeps to the ring."""
+        seen = {(given[3], raw.answer_of(*trial)[0] == book.BAD_BOOK)
+                for trial in raw.ring_byte_trials(random.Random(3))
+                for given in [raw.parted(trial[1])[1][0].content()]}
+        self.assertEqual(seen, {(1, True), (2, True), *itertools.product((0, 3, 4, 254, 255), (False, True))})
+
+    def test_numbers_for_P_and_A(self):
+        """Of every width, in range or not, to start and of records."""
+        seen = set()
+        for name, arguments in raw.ring_number_trials(random.Random(3)):
+            (D, P, M, A, m, n), _ = raw.parted(arguments)
+            good = 3 <= P <= 256 and A < P and P > 2 * M and P >= m + n
+            self.assertEqual(raw.answer_of(name, arguments)[0] == book.BAD_SETUP, not good)
+            seen |= {(name, "P", P, good), (name == "start", "A", P, A, good)}
+        for P, name in itertools.product(raw.RING_NUMBERS, ("start", *raw.LABEL_CALLS)):
+            self.assertIn((name, "P", P, 3 <= P <= 256), seen)
+        for P, A, is_start in itertools.product(raw.LARGE_RINGS, raw.SHELF_LAGS, (False, True)):
+            self.assertIn((is_start, "A", P, A, A < P), seen)
+        self.assertLessEqual({0, 256, 512, 2**16, 2**16 + 256, 2**32, 2**32 + 256, 2**63 + 256, 2**64 - 256},
+                             {*raw.RING_NUMBERS})
+
+    def test_records_with_every_phase(self):
+        """On a ring of 256 all read; on one of 255 those with 255 do not."""
+        read = {P: set() for P in raw.LARGE_RINGS}
+        for name, arguments in raw.label_phase_trials(random.Random(3)):
+            (_, P, *_), lent = raw.parted(arguments)
+            phases = {phase for label in lent[1:3] for phase in label.content()[4::2]}
+            bad = raw.answer_of(name, arguments)[0] == book.BAD_STAMP
+            self.assertEqual(bad, 255 in phases and P == 255)
+            read[P] |= set() if bad else phases
+        self.assertEqual(read, {P: {*range(P)} for P in raw.LARGE_RINGS})
+
+    def test_the_reach_of_records_at_the_seam(self):
+        """Each end of it and one beyond, from phases about the seam, by whether it goes from a reset."""
+        seen = {told_of_reach(trial) for trial in raw.label_seam_trials(random.Random(3))}
+        rings = itertools.product(raw.LARGE_RINGS, ((127, 127), (2, 3)), (False, True))
+        self.assertEqual(seen, {
+            (P, m, n, is_reset, phase, d % P, d if 1 - m - is_reset <= d < n else None)
+            for P, (m, n), is_reset in rings
+            for phase in (0, 1, P - 2, P - 1) for d in (-m - 1, -m, 1 - m, n - 1, n)})
 
     def test_the_shelf_beside_each_reason(self):
         """With no slot free and with one, by wishes and lengths of the slot buffer."""
