@@ -31,8 +31,8 @@ static int in_range(size_t number, size_t low, size_t high)
 /* The ranges come first: they keep the sums below from coming round. */
 static int setup_permitted(const struct setup *s)
 {
-    return in_range(s->desks, 2, 8) && in_range(s->phases, 3, 255)
-        && in_range(s->seat_lag, 1, 127) && in_range(s->shelf_lag, 1, 254)
+    return in_range(s->desks, 2, 8) && in_range(s->phases, 3, FULL_RING)
+        && in_range(s->seat_lag, 1, 127) && in_range(s->shelf_lag, 1, 255)
         && in_range(s->back, 1, 127) && in_range(s->ahead, 1, 127)
         && s->shelf_lag >= s->seat_lag && s->phases >= 2 * s->seat_lag + 1
         && s->phases >= s->shelf_lag + 1 && s->phases >= s->back + s->ahead;
@@ -54,9 +54,11 @@ static int limits_permitted(const struct setup *s, const size_t *limits, size_t 
     return 1;
 }
 
+/* A byte has no room for 256 phases: 0 stands for them. */
 static struct setup setup_of(const uint8_t *book)
 {
-    return (struct setup){book[2], book[3], book[5], book[6], book[7], book[8]};
+    size_t phases = book[3] ? book[3] : FULL_RING;
+    return (struct setup){book[2], phases, book[5], book[6], book[7], book[8]};
 }
 
 static int has_mark(const uint8_t *record, const uint8_t mark[2])

@@ -18,7 +18,7 @@ enum newest { NEITHER, FIRST, SECOND };
 enum {
     BOOK_BYTES = 1456, RECORD_BYTES = 20, ROW_BYTES = 16, STAMP_BYTES = 20, ODDS_BYTES = 2,
     SEATS_AT = 16, MAIL_AT = 176, SHELF_AT = 816, LIMIT_AT = 3, ROW_AT = 4,
-    SEATS = 8, PLACES = 32, SLOTS = 32
+    SEATS = 8, PLACES = 32, SLOTS = 32, FULL_RING = 256
 };
 
 uint8_t plain_start(uint8_t *book, size_t book_len, size_t desks, size_t phases,

@@ -1,8 +1,8 @@
 /* One named call, made many times on an empty or a full book, so that its cost can be counted.
  *
- * calls NAME empty|full|almost|pictured TIMES prints the last answer, a sum of every byte lent, and
- * the nanoseconds taken. Almost is full but for its last place; pictured is full, and its first
- * slots hold a picture of all desks.
+ * calls NAME empty|full|almost|pictured PHASES TIMES prints the last answer, a sum of every byte
+ * lent, and the nanoseconds taken, on a ring of so many phases. Almost is full but for its last
+ * place; pictured is full, and its first slots hold a picture of all desks.
  * Build with PREFIX plain_ and HEADER "book.h", or PREFIX gulambitok_ and HEADER "gulambitok.h".
  */
 #include HEADER
@@ -17,13 +17,14 @@
 #define JOIN(prefix, name) JOIN_NAMES(prefix, name)
 #define CALL(name) JOIN(PREFIX, name)
 
-#define SETUP DESKS, 255, limits, DESKS, 100, 200, 100, 100
+#define SETUP DESKS, phases, limits, DESKS, 100, 200, 100, 100
 
 enum {
     BOOK = 1456, STAMP = 20, ROW = 16, ODDS = 2, DESKS = 8, PLACES_AND_SLOTS = 32, RESET_EVERY = 5
 };
 
 static uint8_t book[BOOK], prepared[BOOK], stamp[STAMP], row[ROW], odds[ODDS], learnt, slot, value;
+static size_t phases;
 static const size_t limits[DESKS] = {255, 255, 255, 255, 255, 255, 255, 255};
 static const size_t first_slots[DESKS] = {0, 1, 2, 3, 4, 5, 6, 7};
 static uint8_t first_label[STAMP], second_label[STAMP];
@@ -303,14 +304,15 @@ static long nanoseconds(void)
 
 int main(int words, char **word)
 {
-    const struct entry *entry = words == 4 ? entry_named(word[1]) : NULL;
+    const struct entry *entry = words == 5 ? entry_named(word[1]) : NULL;
     if (!entry) {
-        fprintf(stderr, "usage: calls NAME empty|full|almost|pictured TIMES\n");
+        fprintf(stderr, "usage: calls NAME empty|full|almost|pictured PHASES TIMES\n");
         return 2;
     }
+    phases = strtoul(word[3], NULL, 10);
     prepare(entry, word[2]);
     uint8_t answer = 0;
-    long times = atol(word[3]), began = nanoseconds();
+    long times = atol(word[4]), began = nanoseconds();
     for (long i = 0; i < times; i++) {
         memcpy(book, prepared, BOOK);
         answer = entry->make();
