@@ -33,7 +33,7 @@
 --   byteRing P A      two desks that may lag 127 phases on a ring of P, kept stamps A
 --   turns n           n resets of desk 0; turnLines v n, their lines, from the phase v on
 --   upTo n            the numbers below n
---   round             the full ring and those that are no profile, and a run of desk 0 once round it, by their numbers
+--   round             the full ring, rings that are not permitted, and a run of desk 0 once round the full one, by their numbers
 --   filling           32 kept events of desk 0, which fill the shelf; filled, their lines
 --   room              runs on places and slots: full ones, freed ones, and a stamp written or kept too long
 --   all               all of these
@@ -453,7 +453,7 @@ round =
       calls = start (byteRing 256 255) ∷ start (byteRing 255 255) ∷ start (byteRing 256 256) ∷ start (byteRing 257 255) ∷ start (byteRing 0 255) ∷ [];
       lines = told plain ∷ refused 2 ∷ refused 2 ∷ refused 2 ∷ refused 2 ∷ [];
     }
-    -- 18: desk 0 goes once round, 127 phases at a stretch; after 255 comes 0, which is later; at the last its kept 0.1 lags 255
+    -- 18: desk 0 goes once round, 127 phases at a stretch; after 255 comes 0, which is later; at 255 its kept 0.1 lags 255
     ∷ opened (byteRing 256 255)
     (on (local 0 true)
     ∷ turns 128
