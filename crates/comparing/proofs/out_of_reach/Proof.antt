@@ -1,7 +1,11 @@
 -- `comparing::out_of_reach` meets its contract.
 -- Assumes nothing.
 use native.Mathlib.Omega.{arith}
+use Prim.Native.Nat.{_+_}
+use mathlib.Core.Path.{_∙_}
+use mathlib.Core.Bool.{not, _&&_}
 use mathlib.Core.List.{[]}
+use lib.Dec.{ltb}
 use borrow.Author.Needs.{needs}
 use Rattle.rules.specs.Setups.{setupWith}
 use Rattle.rules.proofs.Reach.{reach-most}
@@ -17,8 +21,13 @@ add-result-2 c =
 
 returns : tie.Need-returns
 returns c l =
-    let x = c .before .before .before .before .before .args in
-    cc (out-by (setupWith (x .setup) l) (x .way .from) (gapOf (x .way)), c .before .reach-back .ensures l)
+    let b = c .before in
+    let x = b .before .before .before .before .args in
+    let up = b .before .before .before .wide .ensures in
+    let down = b .before .before .wide2 .ensures in
+    let back = b .reach-back .ensures l in
+    (λ i. not (ltb (up i) (down i + x .setup .ahead) && ltb (down i) (up i + back i)))
+    ∙ out-by (setupWith (x .setup) l) (x .way .from) (gapOf (x .way))
 
 pub out-of-reach-spec : {M : Type 1} → statement M
 out-of-reach-spec =
