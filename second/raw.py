@@ -944,11 +944,11 @@ def length_trials(rng):
 
 def shelf_trials(rng):
     """Each event by each wish, with no slot free and with one, and slot buffers about their length."""
-    for name, number in UNKEPT:
-        for free in (0, 1):
-            # A full shelf alone stands in the way under P of 256, too.
-            full = (number, free) == (book.DONE, 0)
-            content, numbers = answered(rng, name, number, full_ring_setup if full else any_setup)
+    for (name, number), free in itertools.product(UNKEPT, (0, 1)):
+        # Where a full shelf alone stands in the way it does so under P of 256, too.
+        alone = (number, free) == (book.DONE, 0)
+        for setup_made in (any_setup, full_ring_setup)[:1 + alone]:
+            content, numbers = answered(rng, name, number, setup_made)
             content = shelf_with(rng, content, numbers[0], free)
             for wish, room in itertools.product(WISHES, (0, 1, 2)):
                 yield name, [Lent(rng, content), *numbers, wish,

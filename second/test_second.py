@@ -978,8 +978,7 @@ class Reach(unittest.TestCase):
         seen = set()
         for seed in range(1, 101):
             for run in written(seed).runs:
-                # Of a long run its end is enough.
-                for e in run.events[-120:]:
+                for e in run.events:
                     seen |= self.hold(run, e)
         edges = itertools.product((False, True), ("back", "ahead"), (-1, 0, 1))
         self.assertLessEqual(set(edges), seen)
