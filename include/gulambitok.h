@@ -189,8 +189,9 @@ uint8_t gulambitok_write(const uint8_t *book, size_t book_len, size_t slot, uint
                          size_t target_len);
 
 /* Before off the book, of two stamp records of exactly 20 bytes under a setup: writes 1 when the
- * first is before the second, else 0. Here and below a record reads only where each clock is below
- * the limit of the desk that its pair is for. Refusals: 2, 14, 15, 16. */
+ * first is before the second, else 0. Here and below a record reads only where each phase is below P
+ * and each clock below the limit of the desk that its pair is for. A record does not say which ring
+ * it is of, so P has to be that of its book. Refusals: 2, 14, 15, 16. */
 uint8_t gulambitok_label_before(size_t desks, size_t phases, const size_t *limits,
                                 size_t limits_len, size_t seat_lag, size_t shelf_lag, size_t back,
                                 size_t ahead, const uint8_t *first, size_t first_len,
