@@ -61,7 +61,7 @@ module _ (b : List ℕ) where
     where
       go : (t u v : Bool) → inRange (setupOf b) ≡ t → allBelow records (recordSound lagOf b) ≡ v
           → ((t && u) && v) ≡ ((t && (u && limited (setupOf b))) && v)
-      go true true true e h = rw (seats-limited (ranged (setupOf b) e .desks) h)
+      go true true true e h = rw (seats-limited (ranged (setupOf b) e .desks .1) h)
       go true true false e h = sym (and-false (limited (setupOf b)))
       go true false v e h = refl
       go false u v e h = refl

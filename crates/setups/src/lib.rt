@@ -4,36 +4,36 @@ ghost use mathlib.Core.Bool.{_&&_};
 ghost use mathlib.Core.List.{[]};
 ghost use Prim.Native.Nat.{_≤_};
 ghost use Rattle.rules.specs.Setups;
+ghost use Rattle.setups.specs.Bounds;
 use rules::SetupNumbers;
 
-fn in_range(s: SetupNumbers) -> bool
-    ensures { λ r. ⌜ r ≡ Setups.inRange (Setups.setupWith s []) ⌝ }
+// The bounds that no other test gives: P above A and above 2M keeps these two, and is 3 or more by them.
+fn bounded(s: SetupNumbers) -> bool
+    ensures { λ r. ⌜ r ≡ Bounds.bounded (Setups.setupWith s []) ⌝ }
 {
     tools::within(2, 8, s.desks)
-        & (tools::within(3, 256, s.phases)
-            & (tools::within(1, 127, s.seatLag)
-                & (tools::within(1, 255, s.shelfLag)
-                    & (tools::within(1, 127, s.back) & tools::within(1, 127, s.ahead)))))
+        & ((s.phases <= 256)
+            & ((1 <= s.seatLag)
+                & ((s.seatLag <= s.shelfLag)
+                    & ((s.shelfLag < s.phases)
+                        & (tools::within(1, 127, s.back) & tools::within(1, 127, s.ahead))))))
 }
 
-fn related(s: SetupNumbers) -> bool
-    requires { ⌜ (s .seatLag ≤ 127) × (s .shelfLag ≤ 255) × (s .phases ≤ 256) ⌝ }
-    requires { ⌜ (s .back ≤ 127) × (s .ahead ≤ 127) ⌝ }
-    ensures { λ r. ⌜ r ≡ Setups.related (Setups.setupWith s []) ⌝ }
+fn on_the_ring(s: SetupNumbers) -> bool
+    requires { ⌜ (s .seatLag ≤ 255) × (s .back ≤ 127) × (s .ahead ≤ 127) ⌝ }
+    ensures { λ r. ⌜ r ≡ Bounds.onTheRing (Setups.setupWith s []) ⌝ }
 {
-    (s.seatLag <= s.shelfLag)
-        & ((2 * s.seatLag + 1 <= s.phases)
-            & ((s.shelfLag + 1 <= s.phases) & (s.back + s.ahead <= s.phases)))
+    (2 * s.seatLag + 1 <= s.phases) & (s.back + s.ahead <= s.phases)
 }
 
 // Whether the six numbers are in range and related as they have to be. What the limits are does not count.
 pub fn numbers_ok(s: SetupNumbers) -> bool
     ensures { λ r. ⌜ r ≡ (Setups.inRange (Setups.setupWith s []) && Setups.related (Setups.setupWith s [])) ⌝ }
 {
-    if !in_range(s) {
+    if !bounded(s) {
         return false;
     }
-    related(s)
+    on_the_ring(s)
 }
 
 // Whether a limit is in its range.
@@ -50,13 +50,14 @@ fn limited(s: SetupNumbers, limits: &[usize]) -> bool
     if limits.len() != s.desks {
         return false;
     }
-    let mut ok = true;
     let mut j: usize = 0;
     while j < limits.len() {
-        ok = ok & limit_ok(limits[j]);
+        if !limit_ok(limits[j]) {
+            return false;
+        }
         j += 1;
     }
-    ok
+    true
 }
 
 // Whether a setup is permitted.

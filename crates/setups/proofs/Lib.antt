@@ -1,0 +1,2 @@
+-- Laws of a setup's numbers.
+pub mod Bounds
