@@ -20,6 +20,7 @@ use Rattle.rules.proofs.Frames.{setup-stays}
 use Rattle.book.proofs.Fits.{fresh-fits, step-fits}
 use Rattle.rules.proofs.Steps.{step-refused}
 use Rattle.rules.proofs.Reasons.{never-bad}
+use Rattle.rules.proofs.Reasons as Whole-turns
 use Rattle.rules.proofs.Due.{call-no-event}
 use Rattle.book.specs.Layout.{tagBSpot, spot, fields, setupOf}
 use Rattle.book.specs.Sound.{sound}
@@ -133,6 +134,33 @@ after-sound s c a h =
     go zero e q = whole-sound (turnOn s c .book) (turn-whole s c a e)
     go (suc n) e (inl q) = absurd (omega arith)
     go (suc n) e (inr q) = q
+
+-- a call that is accepted did not find a bad book, and leaves a sound one
+accepted-admits : (s : List ℕ) (c : Call) → answerTo s c .number ≡ 0 → admits s c ≡ true
+unfolding answerTo
+accepted-admits s c = go (admits s c)
+  where
+    go : (t : Bool) → pick t (turnOn s c .answer) (refusal (number BadBook)) .number ≡ 0 → t ≡ true
+    go true e = refl
+    go false e = absurd (omega arith)
+
+pub accepted-sound : (s : List ℕ) (c : Call) → answerTo s c .number ≡ 0 → sound (bookAfter s c) ≡ true
+accepted-sound s c z =
+    let a = accepted-admits s c z in
+    after-sound s c a (inl (ap (λ (d : Answer). d .number) (sym (answer-is s c a)) ∙ z))
+
+pub accepted-decode : (s : List ℕ) (c : Call) → answerTo s c .number ≡ 0 → decode (bookAfter s c) ≡ turnOn s c .book
+accepted-decode s c z = after-decode s c (accepted-admits s c z)
+
+-- a refusal is its number alone
+pub refused-alone : (s : List ℕ) (c : Call) (n : ℕ) → n ≡ answerTo s c .number → (n ≡ 0 → ⊥) → refusal n ≡ answerTo s c
+unfolding answerTo
+refused-alone s c n e ne = go (admits s c) e
+  where
+    go : (t : Bool) → n ≡ pick t (turnOn s c .answer) (refusal (number BadBook)) .number
+        → refusal n ≡ pick t (turnOn s c .answer) (refusal (number BadBook))
+    go true q = ap refusal q ∙ sym (ap (λ (t : Turn). t .answer) (Whole-turns.refused ringOf (decode s) c (λ z. ne (q ∙ z))))
+    go false q = ap refusal q
 
 -- the limits that stand in the seats after a call are those of the setup that the rules have then
 limits-after : (s : List ℕ) (c : Call) → admits s c ≡ true → sound (bookAfter s c) ≡ true → (j : ℕ) → j < 8

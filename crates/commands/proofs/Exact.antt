@@ -1,8 +1,9 @@
--- The parser is exact: a call that is written out is read back, and a line that is read is its call written out.
+-- The parser is exact: what is asked for, a call or may, is read back where it is written out, and a line that is read is what it asks
+-- for written out.
 -- Assumes nothing.
---   written   a call that has a line, its numbers of at most three digits, is read as itself where it is written out
+--   written   what has a line, its numbers of at most three digits, is read as itself where it is written out
 --   bad-count a start whose limits are miscounted, written out, is read as no call
---   reads     a line that is read as a call is that call written out
+--   reads     a line that is read as asking for something is that written out
 --   start-fits     where a line asks for a start, it has room for as many limits, and these are at most 8
 --   picture-fits   where a line asks for a picture, it has room for as many slots, and these are at most 14
 use Prim.Native.Nat.{ℕ, zero, suc, _+_, _*_, _-_, _/_, _%_, _<_, _≤_}
@@ -28,11 +29,11 @@ use Rattle.text.specs.Put.{field}
 use Rattle.text.proofs.Numerals.{Digits, digits}
 use Rattle.rules.specs.Setups.{Setup}
 use Rattle.rules.specs.Model.{askBefore, askCompare, askPicture, askShow, askWrite, Act, local, send, receive, reset, drop, discard, ask}
-use Rattle.rules.specs.Calls.{Call, start, on}
+use Rattle.rules.specs.Calls.{start, on}
 use Rattle.rules.specs.declared.SetupNumbers.{SetupNumbers}
 use Rattle.commands.specs.declared.Command.the-variants.{Start, Picture}
-use Rattle.commands.specs.Lines.{shaped, countAfter, Verb, wish, setupFrom, miscounted, startOf, verbs, asks, choose, parseOf}
-use Rattle.commands.specs.Lines.{limitsAt, slotsAt, callOf}
+use Rattle.commands.specs.Lines.{shaped, countAfter, Wanted, makes, asksMay, Verb, wish, setupFrom, miscounted, startOf, verbs}
+use Rattle.commands.specs.Lines.{asks, choose, parseOf, limitsAt, slotsAt, wantedBy}
 use Rattle.commands.specs.Written.{fields, wordOf, wishNumber, numbersOf, textOf, Spoken, Small}
 use Rattle.commands.proofs.Shapes.{sized, number-there, sift, long-bad}
 use Rattle.commands.proofs.Starts.{setup-back, setup-whole}
@@ -114,36 +115,41 @@ unfolding choose asks
 own v vs ns e s = rw (choose, asks, count-back (v .word) ns, e, is-shaped (v .word) ns s, numbers-back (v .word) ns s)
 
 -- a yes or no that is written out is read back
-wish-back : (q : Bool) (c : Bool → Act) → wish (wishNumber q) c ≡ some (on (c q))
+wish-back : (q : Bool) (c : Bool → Act) → wish (wishNumber q) c ≡ some (makes (on (c q)))
 wish-back true c = refl
 wish-back false c = refl
 
 -- a start that is written out is read as the call of its numbers, which make its setup
-start-line : (X : Setup) → length (textOf (start X)) ≤ 64 → Small (numbersOf (start X))
-    → parseOf (textOf (start X)) ≡ pick (miscounted X) none (some (start X))
+start-line : (X : Setup) → length (textOf (makes (start X))) ≤ 64 → Small (numbersOf (makes (start X)))
+    → parseOf (textOf (makes (start X))) ≡ pick (miscounted X) none (some (makes (start X)))
 unfolding verbs opens allBelow startOf
 start-line X h s =
-    let ns = numbersOf (start X) in
+    let ns = numbersOf (makes (start X)) in
     sift _ h ∙ own _ _ ns (le-leb 6 (length ns) (simp length-append (omega arith))) s ∙ rw (startOf, setup-back X)
 
-pub written : (c : Call) → Spoken c → Small (numbersOf c) → parseOf (textOf c) ≡ some c
+pub written : (a : Wanted) → Spoken a → Small (numbersOf a) → parseOf (textOf a) ≡ some a
 unfolding verbs opens allBelow
-written (start X) g s = start-line X (g .2) s ∙ pick-false _ _ _ (g .1)
-written (on (local d q)) g s = sift _ (g .2) ∙ own _ _ (numbersOf (on (local d q))) refl s ∙ wish-back q (local d)
-written (on (send d k q)) g s = sift _ (g .2) ∙ own _ _ (numbersOf (on (send d k q))) refl s ∙ wish-back q (send d k)
-written (on (receive d p q)) g s = sift _ (g .2) ∙ own _ _ (numbersOf (on (receive d p q))) refl s ∙ wish-back q (receive d p)
-written (on (reset d q)) g s = sift _ (g .2) ∙ own _ _ (numbersOf (on (reset d q))) refl s ∙ wish-back q (reset d)
-written (on (drop d)) g s = sift _ (g .2) ∙ own _ _ (d ∷ []) refl s
-written (on (discard p)) g s = sift _ (g .2) ∙ own _ _ (p ∷ []) refl s
-written (on (ask (askBefore d k))) g s = sift _ (g .2) ∙ own _ _ (d ∷ k ∷ []) refl s
-written (on (ask (askCompare d k))) g s = sift _ (g .2) ∙ own _ _ (d ∷ k ∷ []) refl s
-written (on (ask (askPicture ss))) g s = sift _ (g .2) ∙ own _ _ ss refl s
-written (on (ask (askShow d))) g s = absurd (g .0 refl)
-written (on (ask (askWrite d room))) g s = absurd (g .0 refl)
+written (makes (start X)) g s = start-line X (g .2) s ∙ pick-false _ _ _ (g .1)
+written (makes (on (local d q))) g s = sift _ (g .2) ∙ own _ _ (d ∷ wishNumber q ∷ []) refl s ∙ wish-back q (local d)
+written (makes (on (send d k q))) g s = sift _ (g .2) ∙ own _ _ (d ∷ k ∷ wishNumber q ∷ []) refl s ∙ wish-back q (send d k)
+written (makes (on (receive d p q))) g s = sift _ (g .2) ∙ own _ _ (d ∷ p ∷ wishNumber q ∷ []) refl s ∙ wish-back q (receive d p)
+written (makes (on (reset d q))) g s = sift _ (g .2) ∙ own _ _ (d ∷ wishNumber q ∷ []) refl s ∙ wish-back q (reset d)
+written (makes (on (drop d))) g s = sift _ (g .2) ∙ own _ _ (d ∷ []) refl s
+written (makes (on (discard p))) g s = sift _ (g .2) ∙ own _ _ (p ∷ []) refl s
+written (makes (on (ask (askBefore d k)))) g s = sift _ (g .2) ∙ own _ _ (d ∷ k ∷ []) refl s
+written (makes (on (ask (askCompare d k)))) g s = sift _ (g .2) ∙ own _ _ (d ∷ k ∷ []) refl s
+written (makes (on (ask (askPicture ss)))) g s = sift _ (g .2) ∙ own _ _ ss refl s
+written (makes (on (ask (askShow d)))) g s = absurd (g .0 refl)
+written (makes (on (ask (askWrite d room)))) g s = absurd (g .0 refl)
+written (asksMay d) g s = sift _ (g .2) ∙ own _ _ (d ∷ []) refl s
 
-pub bad-count : (X : Setup) → miscounted X ≡ true → Small (numbersOf (start X)) → parseOf (textOf (start X)) ≡ none
+pub bad-count
+    : (X : Setup)
+    → miscounted X ≡ true
+    → Small (numbersOf (makes (start X)))
+    → parseOf (textOf (makes (start X))) ≡ none
 bad-count X h s =
-    let l = textOf (start X) in
+    let l = textOf (makes (start X)) in
     ⊎-elim (long-bad l) (λ (q : length l ≤ 64). start-line X q s ∙ pick-true _ _ _ h) (lt-or-le 64 (length l))
 
 -- the other way: what a shape says of a line
@@ -194,30 +200,30 @@ module _ (l w : List ℕ) (n : ℕ) (h : shaped l w n ≡ true) where
       let a : i < n = rw (length-tab 0 n (λ k. numberAt l (length w + 4 * k))) at q in
       rw (tab-at n (λ k. numberAt l (length w + 4 * k)) i a) (value-small l (length w + 4 * i) (there-back i a))
 
--- a line that is read is the call written out
-abbrev Written : List ℕ → Call → Type 0
-Written l c = (l ≡ textOf c) × Small (numbersOf c)
+-- a line that is read is what it asks for written out
+abbrev Written : List ℕ → Wanted → Type 0
+Written l a = (l ≡ textOf a) × Small (numbersOf a)
 
--- a call is written as this word and these numbers
-abbrev Says : List ℕ → List ℕ → Call → Type 0
-Says w ns c = (textOf c ≡ w ++ fields ns) × (numbersOf c ≡ ns)
+-- what is asked for is written as this word and these numbers
+abbrev Says : List ℕ → List ℕ → Wanted → Type 0
+Says w ns a = (textOf a ≡ w ++ fields ns) × (numbersOf a ≡ ns)
 
--- a line of the shape of what its call is written as
-say-back : (l w : List ℕ) (n : ℕ) (h : shaped l w n ≡ true) (c : Call) → Says w (numbersAt l (length w) n) c → Written l c
-say-back l w n h c said = (shape-back l w n h ∙ sym (said .0), rw (said .1) (small-back l w n h))
+-- a line of the shape of what it asks for is written as
+say-back : (l w : List ℕ) (n : ℕ) (h : shaped l w n ≡ true) (a : Wanted) → Says w (numbersAt l (length w) n) a → Written l a
+say-back l w n h a said = (shape-back l w n h ∙ sym (said .0), rw (said .1) (small-back l w n h))
 
--- a call that a verb makes of as many numbers as it takes is written as the verb and these numbers
-abbrev Makes : Verb → List ℕ → Type 0
-Makes v ns = (c : Call) → v .made ns ≡ some c → Says (v .word) ns c
+-- what a verb makes of as many numbers as it takes is written as the verb and these numbers
+abbrev MadeSays : Verb → List ℕ → Type 0
+MadeSays v ns = (a : Wanted) → v .made ns ≡ some a → Says (v .word) ns a
 
 data Fair : List Verb → Type 0 where
   none-left : Fair []
-  more : {v : Verb} {vs : List Verb} → ((ns : List ℕ) → v .takes (length ns) ≡ true → Makes v ns) → Fair vs → Fair (v ∷ vs)
+  more : {v : Verb} {vs : List Verb} → ((ns : List ℕ) → v .takes (length ns) ≡ true → MadeSays v ns) → Fair vs → Fair (v ∷ vs)
 
-choose-reads : (vs : List Verb) → Fair vs → (l : List ℕ) (c : Call) → choose vs l ≡ some c → Written l c
+choose-reads : (vs : List Verb) → Fair vs → (l : List ℕ) (a : Wanted) → choose vs l ≡ some a → Written l a
 unfolding choose asks
-choose-reads [] none-left l c e = absurd (none-some e)
-choose-reads (v ∷ vs) (more says f) l c e = go (asks l v) refl e (choose-reads vs f l c)
+choose-reads [] none-left l a e = absurd (none-some e)
+choose-reads (v ∷ vs) (more says f) l a e = go (asks l v) refl e (choose-reads vs f l a)
   where
     n : ℕ
     n = countAfter l (v .word)
@@ -231,43 +237,43 @@ choose-reads (v ∷ vs) (more says f) l c e = go (asks l v) refl e (choose-reads
     go
         : (t : Bool)
         → asks l v ≡ t
-        → pick t (v .made ns) (choose vs l) ≡ some c
-        → (choose vs l ≡ some c → Written l c)
-        → Written l c
+        → pick t (v .made ns) (choose vs l) ≡ some a
+        → (choose vs l ≡ some a → Written l a)
+        → Written l a
     go true h q ih =
-        say-back l (v .word) n (and-true-r (v .takes n) (shaped l (v .word) n) h) c
-        (says ns (ap (v .takes) many ∙ and-true-l (v .takes n) (shaped l (v .word) n) h) c q)
+        say-back l (v .word) n (and-true-r (v .takes n) (shaped l (v .word) n) h) a
+        (says ns (ap (v .takes) many ∙ and-true-l (v .takes n) (shaped l (v .word) n) h) a q)
     go false h q ih = ih q
 
 -- a verb that takes n numbers only is fair where it is of every n of them
-only : {v : Verb} {vs : List Verb} (n : ℕ) → v .takes ≡ eqb n → ((f : ℕ → ℕ) → Makes v (tab 0 n f)) → Fair vs → Fair (v ∷ vs)
+only : {v : Verb} {vs : List Verb} (n : ℕ) → v .takes ≡ eqb n → ((f : ℕ → ℕ) → MadeSays v (tab 0 n f)) → Fair vs → Fair (v ∷ vs)
 only {v} n k h =
     more
     (λ ns e.
     let q : n ≡ length ns = eqb-true _ _ (ap (λ p. p (length ns)) (sym k) ∙ e) in
-    subst (Makes v) (sym (is-tab n (byte ns) ns (sym q) (λ i l. refl))) (h (byte ns)))
+    subst (MadeSays v) (sym (is-tab n (byte ns) ns (sym q) (λ i l. refl))) (h (byte ns)))
 
 -- what holds of a yes and a no holds of every call that a last number makes
 by-wish
-    : (P : ℕ → Call → Type 0) (c : Bool → Act)
-    → P 0 (on (c false))
-    → P 1 (on (c true))
-    → (q : ℕ) (d : Call)
-    → wish q c ≡ some d
-    → P q d
-by-wish P c not-kept kept zero d e = subst (P 0) (some-is e) not-kept
-by-wish P c not-kept kept (suc zero) d e = subst (P 1) (some-is e) kept
-by-wish P c not-kept kept (suc (suc q)) d e = absurd (none-some (rw (lt-ltb 1 (suc (suc q)) (omega arith)) at e))
+    : (P : ℕ → Wanted → Type 0) (c : Bool → Act)
+    → P 0 (makes (on (c false)))
+    → P 1 (makes (on (c true)))
+    → (q : ℕ) (a : Wanted)
+    → wish q c ≡ some a
+    → P q a
+by-wish P c not-kept kept zero a e = subst (P 0) (some-is e) not-kept
+by-wish P c not-kept kept (suc zero) a e = subst (P 1) (some-is e) kept
+by-wish P c not-kept kept (suc (suc q)) a e = absurd (none-some (rw (lt-ltb 1 (suc (suc q)) (omega arith)) at e))
 
 -- the call of a start's numbers is written as them
-start-says : (ns : List ℕ) → leb 6 (length ns) ≡ true → (c : Call) → startOf ns ≡ some c → Says (ascii "start") ns c
+start-says : (ns : List ℕ) → leb 6 (length ns) ≡ true → (a : Wanted) → startOf ns ≡ some a → Says (ascii "start") ns a
 unfolding startOf
-start-says ns h c e = go (miscounted (setupFrom ns)) e
+start-says ns h a e = go (miscounted (setupFrom ns)) e
   where
-    whole : numbersOf (start (setupFrom ns)) ≡ ns
+    whole : numbersOf (makes (start (setupFrom ns))) ≡ ns
     whole = setup-whole ns (leb-true _ _ h)
 
-    go : (t : Bool) → pick t none (some (start (setupFrom ns))) ≡ some c → Says (ascii "start") ns c
+    go : (t : Bool) → pick t none (some (makes (start (setupFrom ns)))) ≡ some a → Says (ascii "start") ns a
     go true q = absurd (none-some q)
     go false q = subst (Says (ascii "start") ns) (some-is q) (ap (λ m. ascii "start" ++ fields m) whole, whole)
 
@@ -278,37 +284,38 @@ all-fair =
     (only 3 refl (λ f. by-wish (λ q. Says (ascii "send") (f 0 ∷ f 1 ∷ q ∷ [])) (send (f 0) (f 1)) (refl, refl) (refl, refl) (f 2))
     (only 3 refl (λ f. by-wish (λ q. Says (ascii "receive") (f 0 ∷ f 1 ∷ q ∷ [])) (receive (f 0) (f 1)) (refl, refl) (refl, refl) (f 2))
     (only 2 refl (λ f. by-wish (λ q. Says (ascii "reset") (f 0 ∷ q ∷ [])) (reset (f 0)) (refl, refl) (refl, refl) (f 1))
-    (only 1 refl (λ f c e. subst (Says (ascii "drop") _) (some-is e) (refl, refl))
-    (only 1 refl (λ f c e. subst (Says (ascii "discard") _) (some-is e) (refl, refl))
-    (only 2 refl (λ f c e. subst (Says (ascii "before") _) (some-is e) (refl, refl))
-    (only 2 refl (λ f c e. subst (Says (ascii "compare") _) (some-is e) (refl, refl))
-    (more start-says (more (λ ns h c e. subst (Says (ascii "picture") ns) (some-is e) (refl, refl)) none-left)))))))))
+    (only 1 refl (λ f a e. subst (Says (ascii "drop") _) (some-is e) (refl, refl))
+    (only 1 refl (λ f a e. subst (Says (ascii "discard") _) (some-is e) (refl, refl))
+    (only 2 refl (λ f a e. subst (Says (ascii "before") _) (some-is e) (refl, refl))
+    (only 2 refl (λ f a e. subst (Says (ascii "compare") _) (some-is e) (refl, refl))
+    (only 1 refl (λ f a e. subst (Says (ascii "may") _) (some-is e) (refl, refl))
+    (more start-says (more (λ ns h a e. subst (Says (ascii "picture") ns) (some-is e) (refl, refl)) none-left))))))))))
 
-pub reads : (l : List ℕ) (c : Call) → parseOf l ≡ some c → (l ≡ textOf c) × Small (numbersOf c)
+pub reads : (l : List ℕ) (a : Wanted) → parseOf l ≡ some a → (l ≡ textOf a) × Small (numbersOf a)
 unfolding parseOf
-reads l c e = go (leb (length l) 64) e
+reads l a e = go (leb (length l) 64) e
   where
-    go : (t : Bool) → pick t (choose verbs l) none ≡ some c → Written l c
-    go true q = choose-reads verbs all-fair l c q
+    go : (t : Bool) → pick t (choose verbs l) none ≡ some a → Written l a
+    go true q = choose-reads verbs all-fair l a q
     go false q = absurd (none-some q)
 
 -- a line that is read is at most 64 bytes long, its verb and four bytes for each number
-module _ (l : List ℕ) (c : Call) (e : some c ≡ parseOf l) where
+module _ (l : List ℕ) (a : Wanted) (e : some a ≡ parseOf l) where
   short : length l ≤ 64
   short =
       ⊎-elim (λ (h : 64 < length l). absurd (none-some (sym (long-bad l h) ∙ sym e))) (λ (h : length l ≤ 64). h) (lt-or-le 64 (length l))
 
-  as-long : length l ≡ length (wordOf c) + 4 * length (numbersOf c)
-  as-long = ap length (reads l c (sym e) .0) ∙ simp length-append (omega (arith, fields-length (numbersOf c)))
+  as-long : length l ≡ length (wordOf a) + 4 * length (numbersOf a)
+  as-long = ap length (reads l a (sym e) .0) ∙ simp length-append (omega (arith, fields-length (numbersOf a)))
 
-pub start-fits : (l : List ℕ) (s : SetupNumbers) (n : ℕ) → callOf l (Start s n) ≡ parseOf l → (n ≤ 8) × (limitsAt + 4 * n ≤ length l)
+pub start-fits : (l : List ℕ) (s : SetupNumbers) (n : ℕ) → wantedBy l (Start s n) ≡ parseOf l → (n ≤ 8) × (limitsAt + 4 * n ≤ length l)
 start-fits l s n e =
     let k = length-tab 0 n (λ i. numberAt l (limitsAt + 4 * i)) in
     let h = short l _ e in
     let a = simp length-append at (as-long l _ e) in
     (omega arith, omega arith)
 
-pub picture-fits : (l : List ℕ) (n : ℕ) → callOf l (Picture n) ≡ parseOf l → (n ≤ 14) × (slotsAt + 4 * n ≤ length l)
+pub picture-fits : (l : List ℕ) (n : ℕ) → wantedBy l (Picture n) ≡ parseOf l → (n ≤ 14) × (slotsAt + 4 * n ≤ length l)
 picture-fits l n e =
     let k = length-tab 0 n (λ i. numberAt l (slotsAt + 4 * i)) in
     let h = short l _ e in

@@ -9,14 +9,15 @@
 --   passed        the others decide where it has not
 --   chosen-any, passed-any   the same of a verb that takes any number of numbers, or any from some number on
 --   wished-call   an event's command by its last number asks for the call that this number wishes for
+--   may-asked     a may of the desk d asks for what its line does, where that is may and its number d
 --   sift          of all verbs, those decide whose word opens the line
---   long-bad      a line over 64 bytes asks for no call
+--   long-bad      a line over 64 bytes asks for nothing
 --   kept-enough   the bytes of a line that are kept tell as much as the whole
 use Prim.Native.Nat.{ℕ, _+_, _*_, _-_, _<_, _≤_}
 use mathlib.Core.Path.{_≡_, refl, sym, ap, _∙_}
 use mathlib.Core.Bool.{Bool, true, false, _&&_}
 use mathlib.Core.List.{List, [], _∷_}
-use mathlib.Core.Option.{none, some}
+use mathlib.Core.Option.{Option, none, some}
 use mathlib.Core.Logic.{⊎-elim}
 use native.Mathlib.Omega.{arith}
 use borrow.Author.Tests.{eqb-true, eqb-false, le-leb, lt-leb}
@@ -31,8 +32,8 @@ use Rattle.text.specs.Stream.{most}
 use Rattle.rules.specs.Model.{Act}
 use Rattle.rules.specs.Calls.{on}
 use Rattle.commands.specs.declared.Command.{Command}
-use Rattle.commands.specs.declared.Command.the-variants.{Bad}
-use Rattle.commands.specs.Lines.{shaped, countAfter, Verb, wish, verbs, asks, choose, parseOf, callOf}
+use Rattle.commands.specs.declared.Command.the-variants.{May, Bad}
+use Rattle.commands.specs.Lines.{shaped, countAfter, Wanted, makes, asksMay, Verb, wish, verbs, asks, choose, parseOf, wantedBy}
 
 pub sized : (l w : List ℕ) (n : ℕ) → shaped l w n ≡ true → length l ≡ length w + 4 * n
 unfolding shaped
@@ -92,9 +93,12 @@ module _ (v : Verb) (vs : List Verb) (l : List ℕ) (n : ℕ) {t : Bool} (k : n 
 -- a command m of a yes or no, and r what its last number makes of it
 pub wished-call : (l : List ℕ) (q : ℕ) (c : Bool → Act) (m r : Command)
     → r ≡ pick (ltb 1 q) Bad m
-    → callOf l m ≡ some (on (c (eqb q 1)))
-    → callOf l r ≡ wish q c
-wished-call l q c m r e h = ap (callOf l) e ∙ pick-ap (callOf l) (ltb 1 q) Bad m ∙ ap (pick (ltb 1 q) none) h
+    → wantedBy l m ≡ some (makes (on (c (eqb q 1))))
+    → wantedBy l r ≡ wish q c
+wished-call l q c m r e h = ap (wantedBy l) e ∙ pick-ap (wantedBy l) (ltb 1 q) Bad m ∙ ap (pick (ltb 1 q) none) h
+
+pub may-asked : (l : List ℕ) (d n : ℕ) (o : Option Wanted) → d ≡ n → o ≡ some (asksMay n) → wantedBy l (May d) ≡ o
+may-asked l d n o e h = ap (λ (k : ℕ). some (asksMay k)) e ∙ sym h
 
 -- the verbs whose word opens a line
 abbrev pub opening : List ℕ → List Verb → List Verb

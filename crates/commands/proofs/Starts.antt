@@ -21,7 +21,7 @@ use Rattle.rules.specs.Setups.{Setup, setupWith}
 use Rattle.rules.specs.Calls.{start}
 use Rattle.rules.specs.declared.SetupNumbers.{SetupNumbers}
 use Rattle.commands.specs.declared.Command.the-variants.{Start, Bad}
-use Rattle.commands.specs.Lines.{setupFrom, miscounted, startOf, limitsAt, callOf}
+use Rattle.commands.specs.Lines.{makes, setupFrom, miscounted, startOf, limitsAt, wantedBy}
 use Rattle.commands.specs.Written.{numbersOf}
 
 -- a line of start that has n numbers
@@ -88,24 +88,24 @@ module _ (l : List ℕ) (s : SetupNumbers) (n : ℕ) (ns : List ℕ) {t : Bool} 
   unfolding miscounted
   told = rw (← k, miscounted, length-tab 0 n (λ i. numberAt l (limitsAt + 4 * i))) e
 
-  pub started : t ≡ false → callOf l (Start s n) ≡ startOf ns
+  pub started : t ≡ false → wantedBy l (Start s n) ≡ startOf ns
   unfolding startOf
   started h = rw (startOf, sym told ∙ h, k)
 
-  pub not-started : t ≡ true → callOf l Bad ≡ startOf ns
+  pub not-started : t ≡ true → wantedBy l Bad ≡ startOf ns
   unfolding startOf
   not-started h = rw (startOf, sym told ∙ h)
 
-pub setup-back : (X : Setup) → setupFrom (numbersOf (start X)) ≡ X
+pub setup-back : (X : Setup) → setupFrom (numbersOf (makes (start X))) ≡ X
 unfolding setupFrom
 setup-back X =
     let four = X .seatLag ∷ X .shelfLag ∷ X .back ∷ X .ahead ∷ [] in
-    let ns = numbersOf (start X) in
+    let ns = numbersOf (makes (start X)) in
     let k : length (X .limits) ≡ length ns - 6 = simp length-append (omega arith) in
     let e : length (X .desks ∷ X .phases ∷ X .limits) ≡ length ns - 4 = simp length-append (omega arith) in
     rw (take-at (X .limits) four (length ns - 6) k, drop-at (X .desks ∷ X .phases ∷ X .limits) four (length ns - 4) e)
 
-pub setup-whole : (ns : List ℕ) → 6 ≤ length ns → numbersOf (start (setupFrom ns)) ≡ ns
+pub setup-whole : (ns : List ℕ) → 6 ≤ length ns → numbersOf (makes (start (setupFrom ns))) ≡ ns
 unfolding setupFrom tab
 setup-whole [] h = absurd (omega arith)
 setup-whole (D ∷ []) h = absurd (omega arith)

@@ -1,3 +1,3 @@
--- The lines of the listing, and the calls that they ask for.
+-- The lines of the listing, and what they ask for.
 pub mod Lines
 pub mod Written

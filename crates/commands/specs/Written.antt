@@ -1,12 +1,12 @@
--- A call written out as a line.
+-- A call, or may, written out as a line.
 -- Assumes nothing.
 --   fields ns       a space and three digits for each number
---   wordOf c        the verb of a call; no word for show and write, which no line asks for
+--   wordOf a        the verb of what is asked for; no word for show and write, which no line asks for
 --   wishNumber q    1 for yes, 0 for no
---   numbersOf c     its numbers, in the order of its line
---   textOf c        its line
---   Counted c       of a start, its limits are not miscounted
---   Spoken c        it has a verb, its limits are not miscounted, and its line is not over 64 bytes
+--   numbersOf a     its numbers, in the order of its line
+--   textOf a        its line
+--   Counted a       of a start, its limits are not miscounted
+--   Spoken a        it has a verb, its limits are not miscounted, and its line is not over 64 bytes
 --   Small ns        each number has at most three digits
 use Prim.Native.Nat.{ℕ, _≤_, _<_}
 use mathlib.Core.Path.{_≡_}
@@ -18,54 +18,57 @@ use Rattle.tools.specs.Lists.{byte}
 use Rattle.text.specs.Words.{ascii}
 use Rattle.text.specs.Put.{field}
 use Rattle.rules.specs.Model.{local, send, receive, reset, drop, discard, ask, askBefore, askCompare, askPicture, askShow, askWrite}
-use Rattle.rules.specs.Calls.{Call, start, on}
-use Rattle.commands.specs.Lines.{miscounted}
+use Rattle.rules.specs.Calls.{start, on}
+use Rattle.commands.specs.Lines.{miscounted, Wanted, makes, asksMay}
 
 abbrev pub fields : List ℕ → List ℕ
 fields [] = []
 fields (n ∷ ns) = field n ++ fields ns
 
-abbrev pub wordOf : Call → List ℕ
-wordOf (start s) = ascii "start"
-wordOf (on (local d q)) = ascii "local"
-wordOf (on (send d k q)) = ascii "send"
-wordOf (on (receive d p q)) = ascii "receive"
-wordOf (on (reset d q)) = ascii "reset"
-wordOf (on (drop s)) = ascii "drop"
-wordOf (on (discard p)) = ascii "discard"
-wordOf (on (ask (askBefore s t))) = ascii "before"
-wordOf (on (ask (askCompare s t))) = ascii "compare"
-wordOf (on (ask (askPicture ss))) = ascii "picture"
-wordOf (on (ask (askShow s))) = []
-wordOf (on (ask (askWrite s room))) = []
+abbrev pub wordOf : Wanted → List ℕ
+wordOf (makes (start s)) = ascii "start"
+wordOf (makes (on (local d q))) = ascii "local"
+wordOf (makes (on (send d k q))) = ascii "send"
+wordOf (makes (on (receive d p q))) = ascii "receive"
+wordOf (makes (on (reset d q))) = ascii "reset"
+wordOf (makes (on (drop s))) = ascii "drop"
+wordOf (makes (on (discard p))) = ascii "discard"
+wordOf (makes (on (ask (askBefore s t)))) = ascii "before"
+wordOf (makes (on (ask (askCompare s t)))) = ascii "compare"
+wordOf (makes (on (ask (askPicture ss)))) = ascii "picture"
+wordOf (makes (on (ask (askShow s)))) = []
+wordOf (makes (on (ask (askWrite s room)))) = []
+wordOf (asksMay d) = ascii "may"
 
 abbrev pub wishNumber : Bool → ℕ
 wishNumber q = pick q 1 0
 
-abbrev pub numbersOf : Call → List ℕ
-numbersOf (start s) =
+abbrev pub numbersOf : Wanted → List ℕ
+numbersOf (makes (start s)) =
     s .desks ∷ s .phases ∷ s .limits ++ (s .seatLag ∷ s .shelfLag ∷ s .back ∷ s .ahead ∷ [])
-numbersOf (on (local d q)) = d ∷ wishNumber q ∷ []
-numbersOf (on (send d k q)) = d ∷ k ∷ wishNumber q ∷ []
-numbersOf (on (receive d p q)) = d ∷ p ∷ wishNumber q ∷ []
-numbersOf (on (reset d q)) = d ∷ wishNumber q ∷ []
-numbersOf (on (drop s)) = s ∷ []
-numbersOf (on (discard p)) = p ∷ []
-numbersOf (on (ask (askBefore s t))) = s ∷ t ∷ []
-numbersOf (on (ask (askCompare s t))) = s ∷ t ∷ []
-numbersOf (on (ask (askPicture ss))) = ss
-numbersOf (on (ask (askShow s))) = []
-numbersOf (on (ask (askWrite s room))) = []
+numbersOf (makes (on (local d q))) = d ∷ wishNumber q ∷ []
+numbersOf (makes (on (send d k q))) = d ∷ k ∷ wishNumber q ∷ []
+numbersOf (makes (on (receive d p q))) = d ∷ p ∷ wishNumber q ∷ []
+numbersOf (makes (on (reset d q))) = d ∷ wishNumber q ∷ []
+numbersOf (makes (on (drop s))) = s ∷ []
+numbersOf (makes (on (discard p))) = p ∷ []
+numbersOf (makes (on (ask (askBefore s t)))) = s ∷ t ∷ []
+numbersOf (makes (on (ask (askCompare s t)))) = s ∷ t ∷ []
+numbersOf (makes (on (ask (askPicture ss)))) = ss
+numbersOf (makes (on (ask (askShow s)))) = []
+numbersOf (makes (on (ask (askWrite s room)))) = []
+numbersOf (asksMay d) = d ∷ []
 
-abbrev pub textOf : Call → List ℕ
-textOf c = wordOf c ++ fields (numbersOf c)
+abbrev pub textOf : Wanted → List ℕ
+textOf a = wordOf a ++ fields (numbersOf a)
 
-abbrev pub Counted : Call → Type 0
-Counted (start s) = miscounted s ≡ false
-Counted (on c) = Unit {0}
+abbrev pub Counted : Wanted → Type 0
+Counted (makes (start s)) = miscounted s ≡ false
+Counted (makes (on c)) = Unit {0}
+Counted (asksMay d) = Unit {0}
 
-abbrev pub Spoken : Call → Type 0
-Spoken c = (wordOf c ≡ [] → ⊥) × Counted c × (length (textOf c) ≤ 64)
+abbrev pub Spoken : Wanted → Type 0
+Spoken a = (wordOf a ≡ [] → ⊥) × Counted a × (length (textOf a) ≤ 64)
 
 abbrev pub Small : List ℕ → Type 0
 Small ns = (i : ℕ) → i < length ns → byte ns i < 1000

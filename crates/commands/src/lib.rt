@@ -8,7 +8,7 @@ ghost use Rattle.tools.specs.Tests.{pick};
 ghost use Rattle.text.specs.Digits.{numberAt, numbersAt};
 ghost use Rattle.rules.specs.Setups.{setupWith};
 ghost use Rattle.commands.specs.Lines.{shaped, countAfter, events, filings, questions, lists, setupFrom, startOf};
-ghost use Rattle.commands.specs.Lines.{choose, parseOf, limitsAt, slotsAt, callOf};
+ghost use Rattle.commands.specs.Lines.{choose, parseOf, limitsAt, slotsAt, wantedBy};
 ghost use Rattle.commands.specs.declared.Command.the-variants as Commands;
 use rules::SetupNumbers;
 
@@ -24,6 +24,7 @@ pub enum Command {
     Discard(usize),
     Before(usize, usize),
     Compare(usize, usize),
+    May(usize),
     Picture(usize),
     Bad,
 }
@@ -109,7 +110,7 @@ fn numbers_of(line: &[u8], count: usize) -> SetupNumbers
 // The start of such a line; a BadLine where D is from 2 to 8 and there are other than D limits.
 fn start_of(line: &[u8], count: usize) -> Command
     requires { ⌜ (6 ≤ count) × (length (now line) ≡ 5 + 4 * count) ⌝ }
-    ensures { λ r. ⌜ callOf (now (line .entry)) r ≡ startOf (numbersAt (now (line .entry)) 5 count) ⌝ }
+    ensures { λ r. ⌜ wantedBy (now (line .entry)) r ≡ startOf (numbersAt (now (line .entry)) 5 count) ⌝ }
 {
     let s = numbers_of(line, count);
     let limits = count - 6;
@@ -123,7 +124,7 @@ fn start_of(line: &[u8], count: usize) -> Command
 // verbs that take any number of numbers come last.
 fn parse_lists(line: &[u8]) -> Command
     requires { ⌜ length (now line) ≤ 64 ⌝ }
-    ensures { λ r. ⌜ callOf (now (line .entry)) r ≡ choose lists (now (line .entry)) ⌝ }
+    ensures { λ r. ⌜ wantedBy (now (line .entry)) r ≡ choose lists (now (line .entry)) ⌝ }
 {
     let count = count_after(line, b"start");
     if (6 <= count) & is_line(line, b"start", count) {
@@ -136,10 +137,10 @@ fn parse_lists(line: &[u8]) -> Command
     Command::Bad
 }
 
-// The questions about two slots, then the lists.
+// The questions about two slots and may, then the lists.
 fn parse_questions(line: &[u8]) -> Command
     requires { ⌜ length (now line) ≤ 64 ⌝ }
-    ensures { λ r. ⌜ callOf (now (line .entry)) r ≡ choose (questions ++ lists) (now (line .entry)) ⌝ }
+    ensures { λ r. ⌜ wantedBy (now (line .entry)) r ≡ choose (questions ++ lists) (now (line .entry)) ⌝ }
 {
     if is_line(line, b"before", 2) {
         return Command::Before(number(line, 0, 2), number(line, 1, 2));
@@ -147,13 +148,16 @@ fn parse_questions(line: &[u8]) -> Command
     if is_line(line, b"compare", 2) {
         return Command::Compare(number(line, 0, 2), number(line, 1, 2));
     }
+    if is_line(line, b"may", 1) {
+        return Command::May(number(line, 0, 1));
+    }
     parse_lists(line)
 }
 
 // The filings, then the questions.
 fn parse_filings(line: &[u8]) -> Command
     requires { ⌜ length (now line) ≤ 64 ⌝ }
-    ensures { λ r. ⌜ callOf (now (line .entry)) r ≡ choose (filings ++ questions ++ lists) (now (line .entry)) ⌝ }
+    ensures { λ r. ⌜ wantedBy (now (line .entry)) r ≡ choose (filings ++ questions ++ lists) (now (line .entry)) ⌝ }
 {
     if is_line(line, b"drop", 1) {
         Command::Drop(number(line, 0, 1))
@@ -177,7 +181,7 @@ fn wished(keep: usize, c: Command) -> Command
 // The four events, then the filings.
 fn parse_events(line: &[u8]) -> Command
     requires { ⌜ length (now line) ≤ 64 ⌝ }
-    ensures { λ r. ⌜ callOf (now (line .entry)) r ≡ choose (events ++ filings ++ questions ++ lists) (now (line .entry)) ⌝ }
+    ensures { λ r. ⌜ wantedBy (now (line .entry)) r ≡ choose (events ++ filings ++ questions ++ lists) (now (line .entry)) ⌝ }
 {
     if is_line(line, b"local", 2) {
         let keep = number(line, 1, 2);
@@ -204,7 +208,7 @@ fn parse_events(line: &[u8]) -> Command
 
 // The command of a line: a line over 64 bytes, or of any other shape, is a BadLine.
 pub fn parse(line: &[u8]) -> Command
-    ensures { λ r. ⌜ callOf (now (line .entry)) r ≡ parseOf (now (line .entry)) ⌝ }
+    ensures { λ r. ⌜ wantedBy (now (line .entry)) r ≡ parseOf (now (line .entry)) ⌝ }
 {
     if text::LINE_MOST < line.len() {
         return Command::Bad;

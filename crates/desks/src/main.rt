@@ -1,9 +1,10 @@
-// Answers the lines of standard input on standard output, from a book of zeros on.
+// Answers the lines of standard input on standard output, from a book of zeros and a summary of zeros on.
 ghost use mathlib.Core.Path.{_≡_};
 ghost use Prim.Native.Nat.{_≤_};
 ghost use lib.ListN.{length, take};
 ghost use Rattle.io.specs.Counts.{clamped};
 ghost use Rattle.text.specs.Stream.{most, held, lastBook};
+ghost use Rattle.office.specs.Office.{folder};
 ghost use Rattle.answering.specs.Answering.{answering};
 ghost use Rattle.listing.specs.Feeding.{Feeds};
 ghost use Rattle.ends.specs.declared.Went.the-variants.{On, Ended};
@@ -63,16 +64,17 @@ fn write_out(out: &[u8]) -> Put
 }
 
 // A piece is taken in; what it prints is written as often as the buffer is full, until that fails.
-fn answer_piece(book: &mut [u8], p: Pending, piece: &[u8]) -> Turn
+fn answer_piece(book: &mut [u8], summary: &mut [u8], p: Pending, piece: &[u8]) -> Turn
     requires { ⌜ p .count ≤ most ⌝ }
-    ensures { λ r. ⌜ Feeds (held (now (book .entry)) p) (now (piece .entry)) (r .used) (now (book .exit)) (r .pending) ⌝ }
+    ensures { λ r. ⌜ Feeds (held (folder (now (book .entry)) (now (summary .entry))) p)
+        (now (piece .entry)) (r .used) (folder (now (book .exit)) (now (summary .exit))) (r .pending) ⌝ }
     ensures { λ r. ⌜ Told (r .went) (r .left) × (r .went ≡ On → r .used ≡ length (now (piece .entry))) ⌝ }
 {
     let mut out = io::buffer();
     let mut q = p;
     let mut at: usize = 0;
     while at < piece.len() {
-        let fed = listing::feed(book, &mut out, q, &piece[at..]);
+        let fed = listing::feed(book, summary, &mut out, q, &piece[at..]);
         let end = fed.end;
         let r = fed.pending;
         at += fed.used;
@@ -97,10 +99,18 @@ fn answer_piece(book: &mut [u8], p: Pending, piece: &[u8]) -> Turn
 }
 
 // What a read has put into a space is taken in. A line that has begun waits for its end, also where the read failed.
-fn take_turn(book: &mut [u8], p: Pending, space: &[u8], got: isize, error: i32) -> Turn
+fn take_turn(
+    book: &mut [u8],
+    summary: &mut [u8],
+    p: Pending,
+    space: &[u8],
+    got: isize,
+    error: i32,
+) -> Turn
     requires { ⌜ p .count ≤ most ⌝ }
-    ensures { λ r. ⌜ Feeds (held (now (book .entry)) p) (take (clamped got (length (now (space .entry)))) (now (space .entry)))
-        (r .used) (now (book .exit)) (r .pending) ⌝ }
+    ensures { λ r. ⌜ Feeds (held (folder (now (book .entry)) (now (summary .entry))) p)
+        (take (clamped got (length (now (space .entry)))) (now (space .entry))) (r .used)
+        (folder (now (book .exit)) (now (summary .exit))) (r .pending) ⌝ }
     ensures { λ r. ⌜ Goes On (readWent got error) (r .went) (r .left) ⌝ }
     ensures { λ r. ⌜ (r .went ≡ On → r .used ≡ clamped got (length (now (space .entry)))) ⌝ }
 {
@@ -114,42 +124,44 @@ fn take_turn(book: &mut [u8], p: Pending, space: &[u8], got: isize, error: i32) 
         };
     };
     let n = io::count(got, space);
-    answer_piece(book, p, &space[..n])
+    answer_piece(book, summary, p, &space[..n])
 }
 
 // The input has ended: a line that has begun is answered.
-fn last_turn(book: &mut [u8], p: Pending) -> Put
+fn last_turn(book: &mut [u8], summary: &mut [u8], p: Pending) -> Put
     requires { ⌜ p .count ≤ most ⌝ }
-    ensures { λ r. ⌜ (now (book .exit) ≡ lastBook answering (held (now (book .entry)) p)) × Told (r .went) (r .left) ⌝ }
+    ensures { λ r. ⌜ (folder (now (book .exit)) (now (summary .exit))
+        ≡ lastBook answering (held (folder (now (book .entry)) (now (summary .entry))) p)) × Told (r .went) (r .left) ⌝ }
 {
     let mut out = [0u8; listing::ROOM];
-    let n = listing::finish(book, &mut out, p);
+    let n = listing::finish(book, summary, &mut out, p);
     write_out(&out[..n])
 }
 
 // How the run ends: where the input has ended, after its last line.
-fn ending(book: &mut [u8], p: Pending, w: Went) -> Put
+fn ending(book: &mut [u8], summary: &mut [u8], p: Pending, w: Went) -> Put
     requires { ⌜ p .count ≤ most ⌝ }
-    ensures { λ r. ⌜ (now (book .exit) ≡ endBook w (held (now (book .entry)) p)) × Goes Ended w (r .went) (r .left) ⌝ }
+    ensures { λ r. ⌜ (folder (now (book .exit)) (now (summary .exit))
+        ≡ endBook w (held (folder (now (book .entry)) (now (summary .entry))) p)) × Goes Ended w (r .went) (r .left) ⌝ }
 {
     let Went::Ended = w else {
         return Put { left: 0, went: w };
     };
-    last_turn(book, p)
+    last_turn(book, summary, p)
 }
 
 // Turn after turn, until the run does not go on. Where the input has ended, the last line is answered.
-fn run(book: &mut [u8]) -> Went {
+fn run(book: &mut [u8], summary: &mut [u8]) -> Went {
     let mut space = io::buffer();
     let mut p = text::fresh();
     let mut turns = TURNS;
     while turns > 0 {
         let got = libc::read(STDIN_FILENO, &mut space);
-        let t = take_turn(book, p, &space, got, os::errno());
+        let t = take_turn(book, summary, p, &space, got, os::errno());
         p = t.pending;
         let w = t.went;
         let Went::On = w else {
-            let put = ending(book, p, w);
+            let put = ending(book, summary, p, w);
             return put.went;
         };
         turns -= 1;
@@ -159,7 +171,8 @@ fn run(book: &mut [u8]) -> Went {
 
 fn main() {
     let mut book = [0u8; parts::BOOK_BYTES];
-    let w = run(&mut book);
+    let mut summary = [0u8; summary::SUMMARY_BYTES];
+    let w = run(&mut book, &mut summary);
     let mut out = [0u8; 22];
     let n = ends::word(&mut out, w);
     if n > 0 {

@@ -6,8 +6,8 @@
 --   not-on         a run that the code found not to go on does not
 --   untold         a write that ends the run leaves bytes unwritten
 --   prints, stands a run that goes by what it prints, and one that goes as it had
---   ends           a run whose input has not ended ends as it went, and leaves the book alone
---   ends-last      one whose input has ended leaves the book that its last line leaves, and ends by how that is written
+--   ends           a run whose input has not ended ends as it went, and leaves the book and papers alone
+--   ends-last      one whose input has ended leaves the book and papers that its last line leaves, and ends by how that is written
 use Prim.Native.Nat.{ℕ, zero, suc, _<_}
 use mathlib.Core.Path.{_≡_, refl, sym, ap, _∙_, subst}
 use mathlib.Core.Bool.{Bool, true, false, true≢false, _||_}
@@ -24,6 +24,7 @@ use denote.Enum.Declared.{tagOf}
 use types.Run.{OneOf, miss}
 use Rattle.tools.specs.Tests.{pick}
 use Rattle.text.specs.Stream.{State, lastBook}
+use Rattle.office.specs.Office.{Folder}
 use Rattle.answering.specs.Answering.{answering}
 use Rattle.ends.specs.declared.Went.{Went}
 use Rattle.ends.specs.declared.Went.the-variants.{On, Ended, Gone, Unread, Unwritten}
@@ -123,7 +124,7 @@ unended = 0 ∷ 2 ∷ 3 ∷ 4 ∷ []
 not-ended : (w : Went) → OneOf unended (tagOf the-type w) → w ≡ Ended → ⊥
 not-ended w k e = miss unended 1 tt (subst (λ (v : Went). OneOf unended (tagOf the-type v)) e k)
 
-pub ends : (w : Went) → OneOf unended (tagOf the-type w) → (s : State) → (s .book ≡ endBook w s) × Goes Ended w w 0
+pub ends : (w : Went) → OneOf unended (tagOf the-type w) → (s : State Folder) → (s .book ≡ endBook w s) × Goes Ended w w 0
 ends w k s = (go w k, stands Ended w (not-ended w k))
   where
     go : (w : Went) → OneOf unended (tagOf the-type w) → s .book ≡ endBook w s
@@ -134,5 +135,5 @@ ends w k s = (go w k, stands Ended w (not-ended w k))
     go Unwritten k = refl
 
 pub ends-last
-    : (w v : Went) (n : ℕ) → w ≡ Ended → Told v n → (s : State) → (lastBook answering s ≡ endBook w s) × Goes Ended w v n
+    : (w v : Went) (n : ℕ) → w ≡ Ended → Told v n → (s : State Folder) → (lastBook answering s ≡ endBook w s) × Goes Ended w v n
 ends-last w v n e t s = (rw e refl, prints Ended w v n e t)

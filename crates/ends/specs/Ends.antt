@@ -8,7 +8,8 @@
 --   Told w n            the run went w where n bytes of what it prints are not written: it goes on only where there are none
 --   Goes u v w n        the run had gone v, and goes w with n bytes unwritten: where v is u, what that prints is told; else it goes as it
 --                       had, and prints nothing
---   endBook w s         the book at the end of a run that went w, from the state s on: only the end of the input answers a begun line
+--   endBook w s         the book and papers at the end of a run that went w, from the state s on: only the end of the input answers a
+--                       begun line
 --   wordOf w            what the program says on standard error at its end, before the system's reason; no word where it is quiet
 use Prim.Native.Nat.{ℕ, zero, suc, _<_}
 use mathlib.Core.Path.{_≡_}
@@ -19,6 +20,7 @@ use lib.Dec.{eqb}
 use Rattle.tools.specs.Tests.{pick}
 use Rattle.text.specs.Words.{ascii}
 use Rattle.text.specs.Stream.{State, lastBook}
+use Rattle.office.specs.Office.{Folder}
 use Rattle.answering.specs.Answering.{answering}
 use Rattle.ends.specs.declared.Went.{Went}
 use Rattle.ends.specs.declared.Went.the-variants.{On, Ended, Gone, Unread, Unwritten}
@@ -48,7 +50,7 @@ Told Unwritten n = 0 < n
 abbrev pub Goes : Went → Went → Went → ℕ → Type 0
 Goes u v w n = (v ≡ u → Told w n) × ((v ≡ u → ⊥) → (w ≡ v) × (n ≡ 0))
 
-abbrev pub endBook : Went → State → List ℕ
+abbrev pub endBook : Went → State Folder → Folder
 endBook On s = s .book
 endBook Ended s = lastBook answering s
 endBook Gone s = s .book

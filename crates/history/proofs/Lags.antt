@@ -54,6 +54,7 @@ same-result r =
           verdict = v .verdict;
           relation = v .relation;
           odds = v .odds;
+          foretold = v .foretold;
           row = same-shown (v .row) i;
         };
       };

@@ -48,6 +48,7 @@ mapValue φ v =
       verdict = v .verdict;
       relation = v .relation;
       odds = v .odds;
+      foretold = v .foretold;
       row = mapShown φ (v .row);
     }
 

@@ -13,23 +13,24 @@ use lib.Seq.{take-add, take-all}
 use Rattle.text.specs.declared.Pending.{Pending}
 use Rattle.text.specs.Stream.{State, start, printed, runs, most, cut, after, held, lineOf}
 use Rattle.text.proofs.Streams.{any-cut, after-join, after-cut}
+use Rattle.office.specs.Office.{Folder}
 use Rattle.answering.specs.Answering.{answering}
 use Rattle.answering.proofs.Answered.{blind}
 use Rattle.listing.specs.Feeding.{Feeds}
 
-pub any-pieces : (b : List ℕ) (ps : List (List ℕ)) → runs answering (start b) ps ≡ printed answering b (flatten ps)
+pub any-pieces : (b : Folder) (ps : List (List ℕ)) → runs answering (start b) ps ≡ printed answering b (flatten ps)
 any-pieces b ps = any-cut answering blind b ps
 
 pub feeds-one
-    : (s : State) (xs : List ℕ) (n : ℕ) (b b′ : List ℕ) (p p′ : Pending)
+    : (s : State Folder) (xs : List ℕ) (n : ℕ) (b b′ : Folder) (p p′ : Pending)
     → Feeds s xs n b p
     → Feeds s xs n b′ p′
     → (b ≡ b′) × (lineOf p ≡ lineOf p′)
 feeds-one s xs n b b′ p p′ f g =
     let e : held b p ≡ held b′ p′ = f .left ∙ sym (g .left) in
-    (ap (λ (u : State). u .book) e, ap (λ (u : State). u .line) e)
+    (ap (λ (u : State Folder). u .book) e, ap (λ (u : State Folder). u .line) e)
 
-pub feeds-none : (b : List ℕ) (p : Pending) (xs : List ℕ) → p .count ≤ most → Feeds (held b p) xs 0 b p
+pub feeds-none : (b : Folder) (p : Pending) (xs : List ℕ) → p .count ≤ most → Feeds (held b p) xs 0 b p
 unfolding after
 feeds-none b p xs h =
     record {
@@ -39,9 +40,9 @@ feeds-none b p xs h =
     }
 
 pub feeds-on
-    : (s : State) (xs : List ℕ) (n : ℕ) (b : List ℕ) (p : Pending)
+    : (s : State Folder) (xs : List ℕ) (n : ℕ) (b : Folder) (p : Pending)
     → Feeds s xs n b p
-    → (m : ℕ) (b′ : List ℕ) (p′ : Pending)
+    → (m : ℕ) (b′ : Folder) (p′ : Pending)
     → Feeds (held b p) (drop n xs) m b′ p′
     → Feeds s xs (n + m) b′ p′
 feeds-on s xs n b p f m b′ p′ g =
@@ -53,7 +54,7 @@ feeds-on s xs n b p f m b′ p′ g =
       few = g .few;
       left =
           g .left
-          ∙ ap (λ (u : State). cut (after answering u ys)) (f .left)
+          ∙ ap (λ (u : State Folder). cut (after answering u ys)) (f .left)
           ∙ after-cut answering blind (after answering s (take n xs)) ys
           ∙ ap cut (sym joined);
     }

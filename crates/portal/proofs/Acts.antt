@@ -17,6 +17,8 @@ use Rattle.ring.specs.Phases.{Pair}
 use Rattle.rules.specs.Setups.{Setup, limit}
 use Rattle.rules.specs.declared.Stamp.{Stamp}
 use Rattle.rules.specs.declared.Stamped.{Stamped}
+use Rattle.rules.specs.declared.Received.{Received}
+use Rattle.rules.specs.declared.Sent.{Sent}
 use Rattle.rules.specs.declared.Posted.{Posted}
 use Rattle.rules.specs.declared.Posted.the-variants as Posts
 use Rattle.rules.specs.declared.Kept.{Kept}
@@ -68,11 +70,11 @@ Receives s c n x l k b =
 abbrev pub Sends : List ℕ → Act → Posted → Stamp → Kept → List ℕ → Type 0
 Sends s c p x k b = (postedSays p x k ≡ answerTo s (on c)) × (BesidePost p x k × (b ≡ bookAfter s (on c)))
 
-blank-beside : (n : ℕ) → Beside n blank Keeps.No
+pub blank-beside : (n : ℕ) → Beside n blank Keeps.No
 blank-beside zero = tt
 blank-beside (suc n) = (refl, refl)
 
-none-beside : (n : ℕ) → BesideLearnt n 0
+pub none-beside : (n : ℕ) → BesideLearnt n 0
 none-beside zero = tt
 none-beside (suc n) = refl
 
@@ -88,14 +90,19 @@ module _ (s : List ℕ) (c : Act) (n : ℕ) (e : n ≡ numberOf s c) (ne : n ≡
       let f = refused-files s c n e ne in
       subst (λ (r : Stamped). Stamps s c r s) (sym z) (rw (ne-eqb n 0 ne) (f .0), (blank-beside n, f .1))
 
-  pub refused-receives : (x : Stamp) → x ≡ blank → Receives s c n x 0 Keeps.No s
+  pub refused-receives : (r : Received) → r ≡ record { number = n; stamp = blank; learnt = 0; kept = Keeps.No }
+      → Receives s c (r .number) (r .stamp) (r .learnt) (r .kept) s
   unfolding eventSays
-  refused-receives x z =
+  refused-receives r z =
       let f = refused-files s c n e ne in
-      subst (λ (x : Stamp). Receives s c n x 0 Keeps.No s) (sym z) (rw (ne-eqb n 0 ne) (f .0), (blank-beside n, (none-beside n, f .1)))
+      subst (λ (r : Received). Receives s c (r .number) (r .stamp) (r .learnt) (r .kept) s) (sym z)
+      (rw (ne-eqb n 0 ne) (f .0), (blank-beside n, (none-beside n, f .1)))
 
-  pub refused-sends : (x : Stamp) → x ≡ blank → Sends s c (Posts.Refused n) x Keeps.No s
-  refused-sends x z = let f = refused-files s c n e ne in (f .0, ((z, refl), f .1))
+  pub refused-sends : (r : Sent) → r ≡ record { place = Posts.Refused n; stamp = blank; kept = Keeps.No }
+      → Sends s c (r .place) (r .stamp) (r .kept) s
+  refused-sends r z =
+      let f = refused-files s c n e ne in
+      subst (λ (r : Sent). Sends s c (r .place) (r .stamp) (r .kept) s) (sym z) (f .0, ((refl, refl), f .1))
 
 -- the stamp of an event at j that leaves the bytes of a row, and its slot
 abbrev pub stamped : ℕ → List ℕ → ℕ → Stamped

@@ -8,9 +8,8 @@ ghost use Rattle.rules.specs.Model;
 ghost use Rattle.rules.specs.Model.{refusal};
 ghost use Rattle.rules.specs.Calls;
 ghost use Rattle.rules.specs.Calls.{on};
-ghost use Rattle.rules.specs.Replies.{stampedSays, receivedSays, postedSays, toldSays, comparedSays, picturedSays, blank};
+ghost use Rattle.rules.specs.Replies.{stampedSays, receivedSays, postedSays, toldSays, comparedSays, picturedSays};
 ghost use Rattle.rules.specs.Replies.{Beside, BesideLearnt, BesidePost};
-ghost use Rattle.rules.specs.declared.Kept.the-variants as Keeps;
 ghost use Rattle.book.specs.Layout;
 ghost use Rattle.book.specs.Layout.{bookSize, records, shelfFrom, seats, setupOf};
 ghost use Rattle.book.specs.Answers.{answerTo, bookAfter, partOf, partFrom, targetAfter};
@@ -37,26 +36,6 @@ pub fn desks_in(book: &[u8]) -> u8
         return 0;
     }
     book[parts::DESKS_AT]
-}
-
-fn no_stamp() -> Stamp
-    ensures { λ r. ⌜ r ≡ blank ⌝ }
-{
-    Stamp {
-        owner: 0,
-        row: [0u8; 16],
-    }
-}
-
-fn refused(number: u8) -> Stamped
-    ensures { λ r. ⌜ r ≡ record { number = number; stamp = blank; kept = Keeps.No } ⌝ }
-{
-    let stamp = no_stamp();
-    Stamped {
-        number: number,
-        stamp: stamp,
-        kept: Kept::No,
-    }
 }
 
 // A free place or slot has its mark and 18 zeros.
@@ -115,11 +94,9 @@ pub fn start(book: &mut [u8], s: SetupNumbers, limits: &[usize]) -> u8
     ensures { λ r. ⌜ refusal r ≡ answerTo (now (book .entry)) (Calls.start (setupWith s (now (limits .entry)))) ⌝ }
     ensures { λ _. ⌜ now (book .exit) ≡ bookAfter (now (book .entry)) (Calls.start (setupWith s (now (limits .entry)))) ⌝ }
 {
-    if book.len() != parts::BOOK_BYTES {
-        return rules::BAD_BOOK;
-    }
-    if !setups::permits(s, limits) {
-        return rules::BAD_SETUP;
+    let n = refusals::start_number(&book[..], s, limits);
+    if n != rules::DONE {
+        return n;
     }
     fresh::write_fresh(book, s, limits);
     rules::DONE
@@ -133,7 +110,7 @@ pub fn local(book: &mut [u8], desk: usize, keep: bool) -> Stamped
 {
     let grant = refusals::local_grant(&book[..], desk, keep);
     if grant.number != rules::DONE {
-        return refused(grant.number);
+        return refusals::event_refused(grant.number);
     }
     let row = rows::grown_row(&book[..], desk);
     take_row(book, desk, row, grant.slot)
@@ -147,12 +124,7 @@ pub fn send(book: &mut [u8], desk: usize, to: usize, keep: bool) -> Sent
 {
     let grant = refusals::send_grant(&book[..], desk, to, keep);
     if grant.number != rules::DONE {
-        let stamp = no_stamp();
-        return Sent {
-            place: Posted::Refused(grant.number),
-            stamp: stamp,
-            kept: Kept::No,
-        };
+        return refusals::send_refused(grant.number);
     }
     let p = reasons::free_from(&book[..], parts::MAIL);
     let row = rows::grown_row(&book[..], desk);
@@ -177,13 +149,7 @@ pub fn receive(book: &mut [u8], desk: usize, place: usize, keep: bool) -> Receiv
 {
     let grant = refusals::receive_grant(&book[..], desk, place, keep);
     if grant.number != rules::DONE {
-        let stamp = no_stamp();
-        return Received {
-            number: grant.number,
-            stamp: stamp,
-            learnt: 0,
-            kept: Kept::No,
-        };
+        return refusals::receive_refused(grant.number);
     }
     let merged = rows::merged_row(&book[..], desk, place);
     let row = merged.row;
@@ -208,7 +174,7 @@ pub fn reset(book: &mut [u8], desk: usize, keep: bool) -> Stamped
 {
     let grant = refusals::reset_grant(&book[..], desk, keep);
     if grant.number != rules::DONE {
-        return refused(grant.number);
+        return refusals::event_refused(grant.number);
     }
     let row = rows::turned_row(&book[..], desk);
     take_row(book, desk, row, grant.slot)

@@ -2,3 +2,4 @@
 pub mod First
 pub mod Slots
 pub mod Grants
+pub mod Started

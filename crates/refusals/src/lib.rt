@@ -1,14 +1,28 @@
 // The number that each call is answered before anything is changed: BadBook first, then its reasons in ascending order. To an event
-// goes with it the slot that its stamp is kept in, so that the shelf is looked through once.
+// goes with it the slot that its stamp is kept in, so that the shelf is looked through once. And what a refused event answers.
 ghost use mathlib.Core.Path.{_≡_};
 ghost use Prim.Native.Nat.{_<_, _≤_};
 ghost use lib.ListN.{length};
 ghost use Rattle.tools.specs.Tests.{any};
+ghost use Rattle.rules.specs.Setups.{setupWith};
 ghost use Rattle.rules.specs.Model;
+ghost use Rattle.rules.specs.Model.{refusal};
+ghost use Rattle.rules.specs.Calls.{start};
+ghost use Rattle.rules.specs.Replies.{blank};
+ghost use Rattle.rules.specs.declared.Kept.the-variants as Keeps;
+ghost use Rattle.rules.specs.declared.Posted.the-variants as Posts;
 ghost use Rattle.book.specs.Layout.{bookSize, shelfFrom};
+ghost use Rattle.book.specs.Answers.{answerTo};
 ghost use Rattle.book.specs.Numbers.{tablesOf, numberOf};
 ghost use Rattle.refusals.specs.First.{deskNumber, usedNumber, slotsNumber, listNumber};
 ghost use Rattle.refusals.specs.Grants.{granted, shelfGrant, grantOf};
+use rules::Kept;
+use rules::Posted;
+use rules::Received;
+use rules::Sent;
+use rules::SetupNumbers;
+use rules::Stamp;
+use rules::Stamped;
 
 // What an event is granted: its number, and where that is 0 the slot for its stamp; 32, which is none, where it is not kept.
 pub struct Grant {
@@ -22,6 +36,52 @@ fn refused(number: u8) -> Grant
     Grant {
         number: number,
         slot: parts::PLACES,
+    }
+}
+
+fn no_stamp() -> Stamp
+    ensures { λ r. ⌜ r ≡ blank ⌝ }
+{
+    Stamp {
+        owner: 0,
+        row: [0u8; 16],
+    }
+}
+
+// What a refused local or reset answers.
+pub fn event_refused(number: u8) -> Stamped
+    ensures { λ r. ⌜ r ≡ record { number = number; stamp = blank; kept = Keeps.No } ⌝ }
+{
+    let stamp = no_stamp();
+    Stamped {
+        number: number,
+        stamp: stamp,
+        kept: Kept::No,
+    }
+}
+
+// What a refused send answers.
+pub fn send_refused(number: u8) -> Sent
+    ensures { λ r. ⌜ r ≡ record { place = Posts.Refused number; stamp = blank; kept = Keeps.No } ⌝ }
+{
+    let stamp = no_stamp();
+    Sent {
+        place: Posted::Refused(number),
+        stamp: stamp,
+        kept: Kept::No,
+    }
+}
+
+// What a refused receive answers.
+pub fn receive_refused(number: u8) -> Received
+    ensures { λ r. ⌜ r ≡ record { number = number; stamp = blank; learnt = 0; kept = Keeps.No } ⌝ }
+{
+    let stamp = no_stamp();
+    Received {
+        number: number,
+        stamp: stamp,
+        learnt: 0,
+        kept: Kept::No,
     }
 }
 
@@ -44,6 +104,19 @@ fn shelf_grant(book: &[u8], keep: bool) -> Grant
         };
     }
     refused(rules::SHELF_FULL)
+}
+
+// Start: BadBook, by the length alone, BadSetup or 0.
+pub fn start_number(book: &[u8], s: SetupNumbers, limits: &[usize]) -> u8
+    ensures { λ r. ⌜ refusal r ≡ answerTo (now (book .entry)) (start (setupWith s (now (limits .entry)))) ⌝ }
+{
+    if book.len() != parts::BOOK_BYTES {
+        return rules::BAD_BOOK;
+    }
+    if !setups::permits(s, limits) {
+        return rules::BAD_SETUP;
+    }
+    rules::DONE
 }
 
 // What local, receive and reset ask first.

@@ -13,7 +13,8 @@ use Rattle.tools.specs.Tables.{put}
 use Rattle.ring.specs.Phases.{Pair}
 use Rattle.rules.specs.declared.Relation.the-variants.{Concurrent}
 use Rattle.rules.specs.declared.Pictured.the-variants as Pictures
-use Rattle.rules.specs.Replies.{picturedSays}
+use Rattle.rules.specs.declared.Foretold.the-variants as Foretells
+use Rattle.rules.specs.Replies.{picturedSays, foretoldSays}
 use Rattle.rules.specs.Model.{Row, zeros, nothing, made, says, relates, Answer, refusal, accepted}
 use Rattle.text.specs.Words.{ascii}
 use Rattle.replies.specs.Print.{pairs, answerText}
@@ -38,6 +39,9 @@ pub record AnswerLines : Type 0 where
   pub word : Line (accepted (relates Concurrent)) "000 concurrent"
   pub picture : Line (picturedSays Pictures.Yes) "000 yes"
   pub odds : Line (picturedSays (Pictures.Odds 2 7)) "000 002 007"
+  pub may : Line (foretoldSays (Foretells.Is 0)) "000 yes"
+  pub mayNot : Line (foretoldSays (Foretells.Is 11)) "000 011"
+  pub mayRefused : Line (foretoldSays (Foretells.Refused 21)) "021"
   pub start : Line (accepted nothing) "000"
   pub refused : Line (refusal 11) "011"
 
@@ -55,6 +59,9 @@ answer-lines =
       word = refl;
       picture = refl;
       odds = refl;
+      may = refl;
+      mayNot = refl;
+      mayRefused = refl;
       start = refl;
       refused = refl;
     }

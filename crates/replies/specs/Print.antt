@@ -7,6 +7,7 @@
 --   wordText w        a space and the relation in words
 --   verdictText t     a space and yes or no
 --   oddsText o        the two desks at odds, the lower one first
+--   foretoldText n    a space, and yes where the number n is 0, else the number
 --   then s f o        the text s, and behind it f of what o holds, if it holds something
 --   answerText D a    the line in a book of D desks: the number, then each part of the value that is there
 --   longest           the bytes of the longest line: number, owner, eight pairs, a place or a number of desks, slot and newline
@@ -16,6 +17,8 @@ use mathlib.Core.Path.{_≡_}
 use mathlib.Core.Bool.{Bool, true, false}
 use mathlib.Core.Option.{Option, none, some}
 use mathlib.Core.List.{List, [], _∷_, _++_}
+use lib.Dec.{eqb}
+use Rattle.tools.specs.Tests.{pick}
 use Rattle.text.specs.Words.{ascii}
 use Rattle.text.specs.Put.{three, field}
 use Rattle.rules.specs.declared.Relation.{Relation}
@@ -46,6 +49,9 @@ verdictText false = ascii " no"
 abbrev pub oddsText : Odds → List ℕ
 oddsText o = field (o .lower) ++ field (o .higher)
 
+abbrev pub foretoldText : ℕ → List ℕ
+foretoldText n = pick (eqb n 0) (ascii " yes") (field n)
+
 abbrev pub then : {A : Type 0} → List ℕ → (A → List ℕ) → Option A → List ℕ
 then s f none = s
 then s f (some a) = s ++ f a
@@ -59,7 +65,8 @@ answerText D a =
     let kept = then learnt field (a .value .slot) in
     let told = then kept verdictText (a .value .verdict) in
     let related = then told wordText (a .value .relation) in
-    then related oddsText (a .value .odds) ++ (10 ∷ [])
+    let named = then related oddsText (a .value .odds) in
+    then named foretoldText (a .value .foretold) ++ (10 ∷ [])
 
 abbrev pub longest : ℕ
 longest = 80

@@ -4,10 +4,12 @@ ghost use Prim.Native.Nat.{ℕ, _+_, _≤_};
 ghost use mathlib.Core.List.{[]};
 ghost use lib.ListN.{length};
 ghost use Rattle.text.specs.Put.{Wrote, field};
-ghost use Rattle.rules.specs.Model.{refusal, accepted, relates, names};
+ghost use Rattle.rules.specs.Model.{refusal, accepted, relates, names, foretells};
 ghost use Rattle.rules.specs.Replies.{rowOf, slotIn, stampedSays, receivedSays, postedSays, toldSays, comparedSays, picturedSays};
+ghost use Rattle.rules.specs.Replies.{foretoldSays};
 ghost use Rattle.replies.specs.Print.{pair, pairs, stampText, then, answerText, longest, Printable};
 use rules::Compared;
+use rules::Foretold;
 use rules::Kept;
 use rules::Pictured;
 use rules::Posted;
@@ -195,5 +197,29 @@ pub fn put_pictured(out: &mut [u8], at: usize, r: Pictured) -> usize
         Pictured::Yes => put_told(out, at, Told::Yes),
         Pictured::Odds(lower, higher) => put_odds(out, at, lower, higher),
         Pictured::Refused(n) => put_number(out, at, n),
+    }
+}
+
+// The line of an accepted answer to may: yes, or the number that a reset would be answered.
+fn put_may(out: &mut [u8], at: usize, n: u8) -> usize
+    requires { ⌜ at + 8 ≤ length (now out) ⌝ }
+    ensures { λ r. ⌜ ((D : ℕ) → Wrote (now (out .entry)) at (answerText D (accepted (foretells n))) (now (out .exit)) r) ⌝ }
+{
+    if n == rules::DONE {
+        return put_told(out, at, Told::Yes);
+    }
+    let a = text::put_three(out, at, rules::DONE);
+    let b = put_field(out, a, n);
+    text::put_byte(out, b, b'\n')
+}
+
+// The line of an answer to may.
+pub fn put_foretold(out: &mut [u8], at: usize, r: Foretold) -> usize
+    requires { ⌜ at + 8 ≤ length (now out) ⌝ }
+    ensures { λ n. ⌜ ((D : ℕ) → Wrote (now (out .entry)) at (answerText D (foretoldSays r)) (now (out .exit)) n) ⌝ }
+{
+    match r {
+        Foretold::Is(n) => put_may(out, at, n),
+        Foretold::Refused(n) => put_number(out, at, n),
     }
 }

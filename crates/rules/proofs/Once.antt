@@ -21,9 +21,11 @@ use Rattle.rules.specs.declared.Compared.{Compared}
 use Rattle.rules.specs.declared.Compared.the-variants as Compares
 use Rattle.rules.specs.declared.Pictured.{Pictured}
 use Rattle.rules.specs.declared.Pictured.the-variants as Pictures
+use Rattle.rules.specs.declared.Foretold.{Foretold}
+use Rattle.rules.specs.declared.Foretold.the-variants as Foretells
 use Rattle.rules.specs.Model.{Label, made, names, Answer, refusal, accepted}
 use Rattle.rules.specs.Replies.{rowOf, slotIn, eventSays, stampedSays, receivedSays, postedSays, toldSays, comparedSays, picturedSays}
-use Rattle.rules.specs.Replies.{Beside, BesideLearnt, BesidePost}
+use Rattle.rules.specs.Replies.{foretoldSays, Beside, BesideLearnt, BesidePost}
 use Rattle.rules.proofs.RowBytes.{row-once}
 
 same-stamp : (a b : Answer) → a ≡ b → a .value .stamp ≡ b .value .stamp
@@ -74,6 +76,16 @@ pictured-once (Pictures.Odds i k) (Pictures.Refused n) e = absurd (none-some (sy
 pictured-once (Pictures.Refused n) Pictures.Yes e = let v = same-verdict _ _ e in cc
 pictured-once (Pictures.Refused n) (Pictures.Odds i k) e = absurd (none-some (ap (λ (a : Answer). a .value .odds) e))
 pictured-once (Pictures.Refused n) (Pictures.Refused n′) e = let n = number-once _ _ e in cc
+
+-- may
+same-foretold : (a b : Answer) → a ≡ b → a .value .foretold ≡ b .value .foretold
+same-foretold a b e = ap (λ (a : Answer). a .value .foretold) e
+
+pub foretold-once : (r r′ : Foretold) → foretoldSays r ≡ foretoldSays r′ → r ≡ r′
+foretold-once (Foretells.Is n) (Foretells.Is n′) e = ap Foretells.Is (some-is (same-foretold _ _ e))
+foretold-once (Foretells.Is n) (Foretells.Refused n′) e = absurd (none-some (sym (same-foretold _ _ e)))
+foretold-once (Foretells.Refused n) (Foretells.Is n′) e = absurd (none-some (same-foretold _ _ e))
+foretold-once (Foretells.Refused n) (Foretells.Refused n′) e = ap Foretells.Refused (number-once n n′ e)
 
 -- a stamp, of sixteen row bytes
 stamp-once : (x x′ : Stamp) → length (x .row) ≡ 16 → length (x′ .row) ≡ 16 → x .owner ≡ x′ .owner → rowOf (x .row) ≡ rowOf (x′ .row)

@@ -51,22 +51,24 @@ module _ (Z : Setup → Phases) (b : Book) where
   settled-only zero t z ne = absurd (ne z)
   settled-only (suc n) t z ne = refl
 
+  pub call-rising : (c : Call) → rises 1 (reasonsOf Z b c) ≡ true
+  call-rising (start X) = refl
+  call-rising (on c) = rising (Z (b .setup)) (b .setup) (b .tables) c
+
+  pub call-number : (c : Call) → call Z b c .answer .number ≡ first (reasonsOf Z b c)
+  unfolding call
+  call-number (start X) = settled-number (first (reasonsOf Z b (start X))) _ refl
+  call-number (on c) = step-number (Z (b .setup)) (b .setup) (b .tables) c
+
   -- THE PROMISE, for start and the acts
   pub number-due : (c : Call) → Smallest (Holds (reasonsOf Z b c)) (call Z b c .answer .number)
-  unfolding call
-  number-due (start X) =
-      subst (Smallest (Holds (reasonsOf Z b (start X)))) (sym (settled-number (first (reasonsOf Z b (start X))) _ refl))
-      (first-smallest (reasonsOf Z b (start X)) 1 refl)
-  number-due (on c) = act-number (Z (b .setup)) (b .setup) (b .tables) c
+  number-due c =
+      subst (Smallest (Holds (reasonsOf Z b c))) (sym (call-number c)) (first-smallest (reasonsOf Z b c) 1 (call-rising c))
 
   -- BadBook's number is due to no call on a book that is admitted
   pub never-bad : (c : Call) → call Z b c .answer .number ≡ number BadBook → ⊥
   never-bad c e =
-      let l = holds-above (reasonsOf Z b c) 1 1 (rising-of c) (number-due c .due 1 (omega arith) .0 e .0) in omega arith
-    where
-      rising-of : (c : Call) → rises 1 (reasonsOf Z b c) ≡ true
-      rising-of (start X) = refl
-      rising-of (on c) = rising (Z (b .setup)) (b .setup) (b .tables) c
+      let l = holds-above (reasonsOf Z b c) 1 1 (call-rising c) (number-due c .due 1 (omega arith) .0 e .0) in omega arith
 
   -- A refused call answers its number only, and leaves the book as it was: its setup and its tables.
   pub refused : (c : Call) → (call Z b c .answer .number ≡ 0 → ⊥)

@@ -3,19 +3,21 @@
 --   ringOf X     the ring of a setup; lineOf X, the line
 --   Book         a setup and its tables
 --   Call         start, or an act on the book that is there
+--   alters c     the call c is start or a change: an event, drop or discard; no question
 --   Turn         what a call answers, and the book that it leaves
 --   freshBook X  the book that a start with the setup X writes
 --   settled n b t     the turn t where the number n is 0; else the refusal n, and the book b as it was
 --   turnOf X r   the turn of an act's result r on a book with the setup X
 --   reasonsOf Z b c   when which number is given to the call c
 --   call Z b c   the turn of the call c on the book b
-use mathlib.Core.Bool.{not}
+use mathlib.Core.Bool.{Bool, true, false, not}
 use mathlib.Core.List.{List, [], _∷_}
 use Prim.Native.Nat.{ℕ}
 use Rattle.tools.specs.Reasons.{Reason, first, ifDone}
 use Rattle.ring.specs.Phases.{Phases, ring, line}
 use Rattle.rules.specs.Setups.{Setup, permits}
 use Rattle.rules.specs.Numbers.{BadSetup, given}
+use Rattle.rules.specs.Model.{local, reset, send, receive, drop, discard, ask}
 use Rattle.rules.specs.Model.{Tables, Act, nothing, Answer, refusal, accepted, Result, fresh, reasons, step}
 
 abbrev pub ringOf : Setup → Phases
@@ -31,6 +33,16 @@ pub record Book : Type 0 where
 pub data Call : Type 0 where
   start : Setup → Call
   on : Act → Call
+
+abbrev pub alters : Call → Bool
+alters (start X) = true
+alters (on (local j q)) = true
+alters (on (send j k q)) = true
+alters (on (receive j p q)) = true
+alters (on (reset j q)) = true
+alters (on (drop s)) = true
+alters (on (discard p)) = true
+alters (on (ask q)) = false
 
 pub record Turn : Type 0 where
   pub answer : Answer

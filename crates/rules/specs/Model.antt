@@ -13,8 +13,9 @@
 --   slotAsked q      the slot whose stamp a question hands out, none where it hands out none; slotOf c, the same of an act
 --   Odds             two desks at odds, the lower one and the higher one
 --   Value            what goes with the number 0, part by part
+--   tells t w o n r  a value without an event's parts: yes or no, a relation, two desks at odds, the number of a reset, a row
 --   nothing          no part; the values of the calls: made, an event's place, stamp, number of desks learnt of and slot; a stamp;
---                    says, yes or no; relates, a relation; names, two desks at odds; shows, a row
+--                    says, yes or no; relates, a relation; names, two desks at odds; foretells, the number of a reset; shows, a row
 --   Answer           a number of the answer table, and the value that goes with it
 --   refusal, accepted   the answer with a number and no value; with 0 and a value
 --   Result           what an act answers, and the tables that it leaves
@@ -178,11 +179,25 @@ pub record Value : Type 0 where
   pub verdict : Option Bool
   pub relation : Option Relation
   pub odds : Option Odds
+  pub foretold : Option ℕ
   pub row : Option Row
 
+abbrev pub tells : Option Bool → Option Relation → Option Odds → Option ℕ → Option Row → Value
+tells t w o n r =
+    record {
+      place = none;
+      stamp = none;
+      learnt = none;
+      slot = none;
+      verdict = t;
+      relation = w;
+      odds = o;
+      foretold = n;
+      row = r;
+    }
+
 abbrev pub nothing : Value
-nothing =
-    record { place = none; stamp = none; learnt = none; slot = none; verdict = none; relation = none; odds = none; row = none }
+nothing = tells none none none none none
 
 -- the place of a send, the stamp, how many desks a receive learns of, and the slot of an event that is kept
 abbrev pub made : Option ℕ → ℕ → Row → Option ℕ → Option ℕ → Value
@@ -195,6 +210,7 @@ made p j r l s =
       verdict = none;
       relation = none;
       odds = none;
+      foretold = none;
       row = none;
     }
 
@@ -202,29 +218,19 @@ abbrev pub stamp : ℕ → Row → Value
 stamp j r = made none j r none none
 
 abbrev pub says : Bool → Value
-says t =
-    record { place = none; stamp = none; learnt = none; slot = none; verdict = some t; relation = none; odds = none; row = none }
+says t = tells (some t) none none none none
 
 abbrev pub relates : Relation → Value
-relates w =
-    record { place = none; stamp = none; learnt = none; slot = none; verdict = none; relation = some w; odds = none; row = none }
+relates w = tells none (some w) none none none
 
 abbrev pub names : ℕ → ℕ → Value
-names i k =
-    record {
-      place = none;
-      stamp = none;
-      learnt = none;
-      slot = none;
-      verdict = none;
-      relation = none;
-      odds = some record { lower = i; higher = k };
-      row = none;
-    }
+names i k = tells none none (some record { lower = i; higher = k }) none none
+
+abbrev pub foretells : ℕ → Value
+foretells n = tells none none none (some n) none
 
 abbrev pub shows : Row → Value
-shows r =
-    record { place = none; stamp = none; learnt = none; slot = none; verdict = none; relation = none; odds = none; row = some r }
+shows r = tells none none none none (some r)
 
 pub record Answer : Type 0 where
   pub number : ℕ

@@ -9,7 +9,7 @@ use Rattle.tools.specs.Reasons.{Reason, when}
 
 pub data Name : Type 0 where
   BadBook BadSetup NoDesk SameDesk NoPlace NotYours NoEvent PhaseFull MailFull : Name
-  ShelfFull SeatBehind MailBehind ShelfBehind BadStamp NoRoom OutOfReach BadLine WrongOwner : Name
+  ShelfFull SeatBehind MailBehind ShelfBehind BadStamp NoRoom OutOfReach BadLine WrongOwner BadSummary : Name
 
 abbrev pub number : Name → ℕ
 number BadBook = 1
@@ -30,6 +30,7 @@ number NoRoom = 15
 number OutOfReach = 16
 number BadLine = 17
 number WrongOwner = 18
+number BadSummary = 21
 
 abbrev pub given : Name → Bool → Reason
 given w t = when t (number w)

@@ -13,6 +13,7 @@
 --   toldSays        what the answer to before says
 --   comparedSays    what the answer to compare says
 --   picturedSays    what the answer to picture says
+--   foretoldSays    what the answer to may says
 --   blank           owner 0 and sixteen zeros
 --   Beside n s k    the stamp s and the slot k beside the number n: blank and none where n is a refusal
 --   BesideLearnt n l   the number l of desks learnt of beside the number n: 0 where n is a refusal
@@ -39,7 +40,9 @@ use Rattle.rules.specs.declared.Compared.{Compared}
 use Rattle.rules.specs.declared.Compared.the-variants as Compares
 use Rattle.rules.specs.declared.Pictured.{Pictured}
 use Rattle.rules.specs.declared.Pictured.the-variants as Pictures
-use Rattle.rules.specs.Model.{seats, Row, made, says, relates, names, Answer, refusal, accepted, zeros}
+use Rattle.rules.specs.declared.Foretold.{Foretold}
+use Rattle.rules.specs.declared.Foretold.the-variants as Foretells
+use Rattle.rules.specs.Model.{seats, Row, made, says, relates, names, foretells, Answer, refusal, accepted, zeros}
 
 abbrev pub rowSize : ℕ
 rowSize = 16
@@ -89,6 +92,10 @@ abbrev pub picturedSays : Pictured → Answer
 picturedSays Pictures.Yes = accepted (says true)
 picturedSays (Pictures.Odds i k) = accepted (names i k)
 picturedSays (Pictures.Refused n) = refusal n
+
+abbrev pub foretoldSays : Foretold → Answer
+foretoldSays (Foretells.Is n) = accepted (foretells n)
+foretoldSays (Foretells.Refused n) = refusal n
 
 abbrev pub blank : Stamp
 blank = record { owner = 0; row = replicate rowSize 0 }

@@ -40,6 +40,8 @@ pub const BAD_LINE: u8 = 17;
 
 pub const WRONG_OWNER: u8 = 18;
 
+pub const BAD_SUMMARY: u8 = 21;
+
 // The setup numbers D, P, M, A, m and n, wide enough for any number that comes in. The desks' limits are lent beside them, as a list.
 pub struct SetupNumbers {
     pub desks: usize,
@@ -116,5 +118,11 @@ pub enum Compared {
 pub enum Pictured {
     Yes,
     Odds(u8, u8),
+    Refused(u8),
+}
+
+// What may answers: the number that a reset would be answered, 0 for yes.
+pub enum Foretold {
+    Is(u8),
     Refused(u8),
 }

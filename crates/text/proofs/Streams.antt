@@ -76,25 +76,25 @@ cut-once zero xs ys = refl
 cut-once (suc n) [] ys = refl
 cut-once (suc n) (x ∷ xs) ys = ap (λ (l : List ℕ). x ∷ l) (cut-once n xs ys)
 
-module _ (A : Answers) where
-  pub after-join : (s : State) (xs ys : List ℕ) → after A s (xs ++ ys) ≡ after A (after A s xs) ys
+module _ {B : Type 0} (A : Answers B) where
+  pub after-join : (s : State B) (xs ys : List ℕ) → after A s (xs ++ ys) ≡ after A (after A s xs) ys
   unfolding after
   after-join s [] ys = refl
   after-join s (x ∷ xs) ys = after-join (next A s x) xs ys
 
-  pub text-join : (s : State) (xs ys : List ℕ) → textOf A s (xs ++ ys) ≡ textOf A s xs ++ textOf A (after A s xs) ys
+  pub text-join : (s : State B) (xs ys : List ℕ) → textOf A s (xs ++ ys) ≡ textOf A s xs ++ textOf A (after A s xs) ys
   unfolding after textOf
   text-join s [] ys = refl
   text-join s (x ∷ xs) ys =
       ap (λ (l : List ℕ). textAt A s x ++ l) (text-join (next A s x) xs ys)
       ∙ sym (append-assoc (textAt A s x) (textOf A (next A s x) xs) _)
 
-  pub quiet : (s : State) (xs : List ℕ) → flat xs ≡ true → textOf A s xs ≡ []
+  pub quiet : (s : State B) (xs : List ℕ) → flat xs ≡ true → textOf A s xs ≡ []
   unfolding textOf textAt
   quiet s [] f = refl
   quiet s (x ∷ xs) f = rw (textAt, plain x xs f) (quiet (next A s x) xs (rest x xs f))
 
-  pub gathers : (s : State) (xs : List ℕ) → flat xs ≡ true → after A s xs ≡ record { book = s .book; line = s .line ++ xs }
+  pub gathers : (s : State B) (xs : List ℕ) → flat xs ≡ true → after A s xs ≡ record { book = s .book; line = s .line ++ xs }
   unfolding after next
   gathers s [] f = rw (append-nil (s .line))
   gathers s (x ∷ xs) f =
@@ -103,18 +103,18 @@ module _ (A : Answers) where
       ∙ ap (λ (l : List ℕ). record { book = s .book; line = l }) (append-assoc (s .line) (x ∷ []) xs))
 
   pub line-text
-      : (s : State) (xs : List ℕ) → flat xs ≡ true → textOf A s (xs ++ 10 ∷ []) ≡ A .says (s .book) (s .line ++ xs)
+      : (s : State B) (xs : List ℕ) → flat xs ≡ true → textOf A s (xs ++ 10 ∷ []) ≡ A .says (s .book) (s .line ++ xs)
   unfolding textOf textAt
   line-text s xs f = rw (text-join s xs (10 ∷ []), quiet s xs f, gathers s xs f) (append-nil _)
 
   pub line-after
-      : (s : State) (xs : List ℕ)
+      : (s : State B) (xs : List ℕ)
       → flat xs ≡ true
       → after A s (xs ++ 10 ∷ []) ≡ start (A .leaves (s .book) (s .line ++ xs))
   unfolding after next
   line-after s xs f = rw (after-join s xs (10 ∷ []), gathers s xs f)
 
-  module _ (s : State) (b xs : List ℕ) (a e : ℕ) (h : Ends xs a e) (began : after A s (take a xs) ≡ start b) where
+  module _ (s : State B) (b : B) (xs : List ℕ) (a e : ℕ) (h : Ends xs a e) (began : after A s (take a xs) ≡ start b) where
     line-there : e < length xs → take (e + 1) xs ≡ take a xs ++ (part a e xs ++ 10 ∷ [])
     line-there l =
         rw (add-one, take-suc xs e 0 l, h .newline l, take-part a e xs (h .from)) (append-assoc (take a xs) (part a e xs) (10 ∷ []))
@@ -151,7 +151,7 @@ module _ (A : Answers) where
           gathers (start b) (part a e xs) (h .plain),
         )
 
-  module _ (s : State) (xs : List ℕ) (e : ℕ) (h : Ends xs 0 e) where
+  module _ (s : State B) (xs : List ℕ) (e : ℕ) (h : Ends xs 0 e) where
     pub first-plain : flat (take e xs) ≡ true
     first-plain =
         let z : e - 0 ≡ e = omega arith in
@@ -186,12 +186,12 @@ module _ (A : Answers) where
           line-after s (take e xs) first-plain,
         )
 
-  pub printed-none : (b : List ℕ) → printed A b [] ≡ []
+  pub printed-none : (b : B) → printed A b [] ≡ []
   unfolding printed textOf after lastText
   printed-none b = refl
 
   pub printed-line
-      : (b l xs : List ℕ)
+      : (b : B) (l xs : List ℕ)
       → flat l ≡ true
       → printed A b (l ++ 10 ∷ xs) ≡ A .says b l ++ printed A (A .leaves b l) xs
   unfolding printed
@@ -202,20 +202,20 @@ module _ (A : Answers) where
       (e, text-join (start b) (l ++ 10 ∷ []) xs, after-join (start b) (l ++ 10 ∷ []) xs, line-text (start b) l f, line-after (start b) l f)
       (append-assoc (A .says b l) (textOf A s xs) (lastText A (after A s xs)))
 
-  pub printed-last : (b l : List ℕ) → flat l ≡ true → (length l ≡ 0 → ⊥) → printed A b l ≡ A .says b l
+  pub printed-last : (b : B) (l : List ℕ) → flat l ≡ true → (length l ≡ 0 → ⊥) → printed A b l ≡ A .says b l
   unfolding printed lastText
   printed-last b l f n = rw (quiet (start b) l f, gathers (start b) l f, ne-eqb (length l) 0 n)
 
-pub record Blind (A : Answers) : Type 0 where
-  pub says : (b l : List ℕ) → A .says b (take most l) ≡ A .says b l
-  pub leaves : (b l : List ℕ) → A .leaves b (take most l) ≡ A .leaves b l
+pub record Blind {B : Type 0} (A : Answers B) : Type 0 where
+  pub says : (b : B) (l : List ℕ) → A .says b (take most l) ≡ A .says b l
+  pub leaves : (b : B) (l : List ℕ) → A .leaves b (take most l) ≡ A .leaves b l
 
-module _ (A : Answers) (blind : Blind A) where
-  text-at-cut : (s : State) (x : ℕ) → textAt A (cut s) x ≡ textAt A s x
+module _ {B : Type 0} (A : Answers B) (blind : Blind A) where
+  text-at-cut : (s : State B) (x : ℕ) → textAt A (cut s) x ≡ textAt A s x
   unfolding textAt
   text-at-cut s x = rw (textAt, blind .says (s .book) (s .line))
 
-  next-cut : (s : State) (x : ℕ) → cut (next A (cut s) x) ≡ cut (next A s x)
+  next-cut : (s : State B) (x : ℕ) → cut (next A (cut s) x) ≡ cut (next A s x)
   unfolding next
   next-cut s x = go (eqb x 10) refl
     where
@@ -223,22 +223,22 @@ module _ (A : Answers) (blind : Blind A) where
       go true e = rw (next, e, blind .leaves (s .book) (s .line))
       go false e = rw (next, e, cut-once most (s .line) (x ∷ []))
 
-  pub text-cut : (s : State) (xs : List ℕ) → textOf A (cut s) xs ≡ textOf A s xs
+  pub text-cut : (s : State B) (xs : List ℕ) → textOf A (cut s) xs ≡ textOf A s xs
   unfolding textOf
   text-cut s [] = refl
   text-cut s (x ∷ xs) =
       rw (text-at-cut s x)
       (ap (λ (l : List ℕ). textAt A s x ++ l)
-      (sym (text-cut (next A (cut s) x) xs) ∙ ap (λ (u : State). textOf A u xs) (next-cut s x) ∙ text-cut (next A s x) xs))
+      (sym (text-cut (next A (cut s) x) xs) ∙ ap (λ (u : State B). textOf A u xs) (next-cut s x) ∙ text-cut (next A s x) xs))
 
-  pub after-cut : (s : State) (xs : List ℕ) → cut (after A (cut s) xs) ≡ cut (after A s xs)
+  pub after-cut : (s : State B) (xs : List ℕ) → cut (after A (cut s) xs) ≡ cut (after A s xs)
   unfolding after
   after-cut s [] = rw (take-take most most (s .line) (omega arith))
   after-cut s (x ∷ xs) =
       sym (after-cut (next A (cut s) x) xs)
-      ∙ ap (λ (u : State). cut (after A u xs)) (next-cut s x) ∙ after-cut (next A s x) xs
+      ∙ ap (λ (u : State B). cut (after A u xs)) (next-cut s x) ∙ after-cut (next A s x) xs
 
-  last-cut : (s : State) → lastText A (cut s) ≡ lastText A s
+  last-cut : (s : State B) → lastText A (cut s) ≡ lastText A s
   unfolding lastText
   last-cut s =
       let e : eqb (length (take most (s .line))) 0 ≡ eqb (length (s .line)) 0 =
@@ -246,13 +246,13 @@ module _ (A : Answers) (blind : Blind A) where
       (simp length-take (λ h. omega arith)) in
       rw (lastText, e, blind .says (s .book) (s .line))
 
-  runs-cut : (s : State) (ps : List (List ℕ)) → runs A (cut s) ps ≡ textOf A s (flatten ps) ++ lastText A (after A s (flatten ps))
+  runs-cut : (s : State B) (ps : List (List ℕ)) → runs A (cut s) ps ≡ textOf A s (flatten ps) ++ lastText A (after A s (flatten ps))
   unfolding runs flatten textOf after
   runs-cut s [] = last-cut s
   runs-cut s (xs ∷ ps) =
       rw (text-cut s xs, after-cut s xs, runs-cut (after A s xs) ps, text-join A s xs (flatten ps), after-join A s xs (flatten ps))
       (sym (append-assoc (textOf A s xs) (textOf A (after A s xs) (flatten ps)) _))
 
-  pub any-cut : (b : List ℕ) (ps : List (List ℕ)) → runs A (start b) ps ≡ printed A b (flatten ps)
+  pub any-cut : (b : B) (ps : List (List ℕ)) → runs A (start b) ps ≡ printed A b (flatten ps)
   unfolding printed
   any-cut b ps = runs-cut (start b) ps

@@ -4,10 +4,11 @@
 --   take-put, drop-put    what stands before the end of the text, and what stands after it
 --   put-put               a text after a text is their join
 --   wrote-length          so it does where a text was written
+--   same-text             of two texts that are the same the one is written where the other is
 --   none, one, then       nothing written; one byte; two writes, one after the other
 --   put-paste             a text whose bytes are pasted one by one
 use Prim.Native.Nat.{ℕ, _+_, _<_, _≤_}
-use mathlib.Core.Path.{_≡_, sym, ap, _∙_}
+use mathlib.Core.Path.{_≡_, sym, ap, subst, _∙_}
 use mathlib.Core.List.{List, [], _∷_, _++_, append-assoc}
 use native.Mathlib.Nat.{add-assoc}
 use native.Mathlib.Numerals.{add-one}
@@ -59,6 +60,9 @@ put-put xs at ys zs fits =
 
 pub wrote-length : {xs s ys : List ℕ} {at n : ℕ} → Wrote xs at s ys n → length ys ≡ length xs
 wrote-length {xs} {s} {ys} {at} w = ap length (w .left) ∙ put-length xs at s (w .fits)
+
+pub same-text : {xs s t ys : List ℕ} {at n : ℕ} → s ≡ t → Wrote xs at s ys n → Wrote xs at t ys n
+same-text {xs} {s} {t} {ys} {at} {n} e w = subst (λ (u : List ℕ). Wrote xs at u ys n) e w
 
 -- two writes, one after the other, write the two texts joined
 pub then

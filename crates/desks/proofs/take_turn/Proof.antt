@@ -14,7 +14,7 @@ use Rattle.desks.proofs.take_turn.Statement.{statement}
 use Rattle.desks.proofs.take_turn.Tie as tie
 
 abbrev entry : tie.After-read-went → tie.Start
-entry c = c .before .before .before
+entry c = c .before .before .before .before
 
 abbrev called : tie.After-count → tie.After-read-went
 called c = c .before .before .before
@@ -39,8 +39,8 @@ returns c =
 
 returns-2 : tie.Need-returns-2
 returns-2 c =
-    let k = c .before .before in
-    let n = k .before .before .before in
+    let k = c .before .before .before .before in
+    let n = k .before .before .before .before in
     let went = n .before .enum-told .given .1 in
     let told = k .answer-piece .ensures in (
       rw (counted n) at (told .0),
@@ -54,5 +54,5 @@ pub take-turn-spec : {M : Type 1} → statement M
 take-turn-spec =
     tie.close
     (tie.spec
-    (λ c κs. search needs) (λ c. search needs) returns (λ c κs. search needs) (λ c. search needs) (λ c κs. search needs)
-    (λ c. search needs) returns-2)
+    (λ c κs. search needs) (λ c. search needs) returns (λ c κs. search needs) (λ c. search needs)
+    (λ c κs. search needs) (λ c. search needs) (λ c. search needs) returns-2)

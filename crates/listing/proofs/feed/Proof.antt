@@ -2,7 +2,8 @@
 use Rattle.text.specs.Stream.{held, lineOf}
 use Rattle.text.proofs.Writing.{none, then}
 use Rattle.text.proofs.Streams.{quiet, gathers, first-plain, first-text, first-after}
-use Rattle.answering.specs.Answering.{lineText, lineBook, answering}
+use Rattle.answering.specs.Answering.{lineText, lineFolder, answering}
+use Rattle.office.specs.Office.{folder}
 use Rattle.answering.proofs.Answered.{blind}
 use native.Mathlib.Omega.{arith}
 use lib.ListN.{length, take, drop, length-take, length-drop}
@@ -20,16 +21,16 @@ size c = search needs
 
 -- the places that lie behind the feed of the rest
 abbrev answered : tie.After-feed-lines → tie.After-answer
-answered k = k .before .before .before .before .before .before .before .before
+answered k = k .before .before .before .before .before .before .before .before .before .before .before
 
 abbrev ended : tie.After-feed-lines → tie.Else1
-ended k = answered k .before .before .before .before .before
+ended k = answered k .before .before .before .before .before .before
 
 abbrev found : tie.After-feed-lines → tie.After-line-end
 found k = ended k .before .before .before
 
 abbrev entry : tie.After-feed-lines → tie.Start
-entry k = found k .before .before .before .before
+entry k = found k .before .before .before .before .before
 
 -- what is taken in lies within the piece
 taken
@@ -48,8 +49,9 @@ slice-aggregate-longer c = sym (length-take-le _ _ (omega arith))
 
 returns : tie.Need-returns
 returns c =
-    let a = c .before .before .before .before .before .before .before .args in
-    let s = held (a .book .now) (a .p) in
+    let a = c .before .before .before .before .before .before .before .before .args in
+    let b = folder (a .book .now) (a .summary .now) in
+    let s = held b (a .p) in
     let e = c .before .before .before .line-end in
     let xs = a .piece .now in (
       rw (quiet answering s (take (e .result) xs) (first-plain answering s xs (e .result) (e .ensures)))
@@ -60,26 +62,26 @@ returns c =
           few = c .before .longer .ensures .0;
           left =
               rw (gathers answering s (take (e .result) xs) (first-plain answering s xs (e .result) (e .ensures)))
-              (ap (λ (l : List ℕ). record { book = a .book .now; line = l }) (c .before .longer .ensures .1));
+              (ap (λ (l : List ℕ). record { book = b; line = l }) (c .before .longer .ensures .1));
         },
         λ l. omega arith,
       ),
     )
 
 array-share-prefix-line : tie.Need-array-share-prefix-line
-array-share-prefix-line c = omega (arith, size (c .before .before .before))
+array-share-prefix-line c = omega (arith, size (c .before .before .before .before))
 
 slice-aggregate-answer : tie.Need-slice-aggregate-answer
-slice-aggregate-answer c = sym (length-take-le _ _ (omega (arith, size (c .before .before .before .before))))
+slice-aggregate-answer c = sym (length-take-le _ _ (omega (arith, size (c .before .before .before .before .before))))
 
-add-t15 : tie.Need-add-t15
-add-t15 c = let k = c .before .before .before .before .before .before in omega (arith, entry k .pre, entry k .good, taken k)
+add-t16 : tie.Need-add-t16
+add-t16 c = let k = c .before .before .before .before .before .before .before .before in omega (arith, entry k .pre, entry k .good, taken k)
 
 returns-2 : tie.Need-returns-2
 returns-2 c =
-    let k = c .before .before .before .before .before .before in
+    let k = c .before .before .before .before .before .before .before .before in
     let a = entry k .args in
-    let b = a .book .now in
+    let b = folder (a .book .now) (a .summary .now) in
     let xs = a .piece .now in
     let s = held b (a .p) in
     let e = found k .line-end in
@@ -92,7 +94,7 @@ returns-2 c =
     let w : take (length xs - (e .result + 1)) (drop (e .result + 1) xs) ≡ drop (e .result + 1) xs =
     take-all (length xs - (e .result + 1)) (drop (e .result + 1) xs) (simp length-drop (omega arith)) in
     let text : lineText b (lineOf (ended k .before .longer .result)) ≡ lineText b whole = ap (lineText b) line ∙ blind .says b whole in
-    let book : _ ≡ lineBook b whole = told .1 ∙ ap (lineBook b) line ∙ blind .leaves b whole in (
+    let book : _ ≡ lineFolder b whole = told .1 ∙ ap (lineFolder b) line ∙ blind .leaves b whole in (
       rw (first-text answering s xs (e .result) (e .ensures) l u)
           (then (rw text at (told .0)) (rw (book, w) at (f .ensures .0))),
       (
@@ -111,4 +113,4 @@ feed-spec =
     (tie.spec
     (λ c κs. search needs) slice-aggregate-longer (λ c κs. search needs) returns array-share-prefix-line slice-aggregate-answer
     (λ c κs. search needs) (λ c. search needs) (λ c. search needs) (λ c. search needs) (λ c. search needs)
-    (λ c κs. search needs) add-t15 (λ c. search needs) (λ c. search needs) returns-2)
+    (λ c κs. search needs) add-t16 (λ c. search needs) (λ c. search needs) (λ c. search needs) returns-2)

@@ -10,7 +10,7 @@ use Rattle.portal.proofs.local.Tie as tie
 returns : tie.Need-returns
 returns c =
     let g = c .before .before .before .local-grant in
-    refused-stamps _ _ _ (ap (λ (x : Grant). x .number) (g .ensures)) (c .before .if1 .taken) _ (c .refused .ensures)
+    refused-stamps _ _ _ (ap (λ (x : Grant). x .number) (g .ensures)) (c .before .if1 .taken) _ (c .event-refused .ensures)
 
 grown-row-requires : tie.Need-grown-row-requires
 grown-row-requires c κs =

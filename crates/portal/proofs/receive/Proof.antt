@@ -11,7 +11,7 @@ use Rattle.portal.proofs.receive.Tie as tie
 returns : tie.Need-returns
 returns c =
     let g = c .before .before .before .receive-grant in
-    refused-receives _ _ _ (ap (λ (x : Grant). x .number) (g .ensures)) (c .before .if1 .taken) _ (c .no-stamp .ensures)
+    refused-receives _ _ _ (ap (λ (x : Grant). x .number) (g .ensures)) (c .before .if1 .taken) _ (c .receive-refused .ensures)
 
 merged-row-requires : tie.Need-merged-row-requires
 merged-row-requires c κs =

@@ -10,7 +10,7 @@ use Rattle.portal.proofs.reset.Tie as tie
 returns : tie.Need-returns
 returns c =
     let g = c .before .before .before .reset-grant in
-    refused-stamps _ _ _ (ap (λ (x : Grant). x .number) (g .ensures)) (c .before .if1 .taken) _ (c .refused .ensures)
+    refused-stamps _ _ _ (ap (λ (x : Grant). x .number) (g .ensures)) (c .before .if1 .taken) _ (c .event-refused .ensures)
 
 turned-row-requires : tie.Need-turned-row-requires
 turned-row-requires c κs =

@@ -17,7 +17,7 @@ entry c = c .before .before .before
 returns : tie.Need-returns
 returns c =
     let g = c .before .before .before .send-grant in
-    refused-sends _ _ _ (ap (λ (x : Grant). x .number) (g .ensures)) (c .before .if1 .taken) _ (c .no-stamp .ensures)
+    refused-sends _ _ _ (ap (λ (x : Grant). x .number) (g .ensures)) (c .before .if1 .taken) _ (c .send-refused .ensures)
 
 -- what was granted: the desk may grow, the other is there, and so is a free place
 may : (c : tie.Else1) → Grows (entry (c .before .before) .args .book .now) (entry (c .before .before) .args .desk)
@@ -72,8 +72,8 @@ take-row-requires c κs =
     let g = c .before .before .before .before .before .before .before .before .before in
     (c .before .before .before .post .kept .0 ∙ may g .at .size, may g .at .eight)
 
-cast-t26 : tie.Need-cast-t26
-cast-t26 c = omega (arith, place (c .before .before .before .before .before .before .before .before .before .before .before))
+cast-t23 : tie.Need-cast-t23
+cast-t23 c = omega (arith, place (c .before .before .before .before .before .before .before .before .before .before .before))
 
 returns-2 : tie.Need-returns-2
 returns-2 c =
@@ -91,4 +91,4 @@ send-spec =
     tie.close
     (tie.spec
     (λ c κs. search needs) (λ c κs. search needs) (λ c. search needs) returns free-from-requires grown-row-requires add-post add-post-2
-    cast-post add-post-3 cast-post-2 post-requires take-row-requires cast-t26 (λ c. search needs) returns-2)
+    cast-post add-post-3 cast-post-2 post-requires take-row-requires cast-t23 (λ c. search needs) returns-2)
