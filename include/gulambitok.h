@@ -42,7 +42,8 @@ enum {
     GULAMBITOK_NO_ROOM = 15,      /* a buffer is too short for what the call would write there */
     GULAMBITOK_OUT_OF_REACH = 16, /* comparison or picture beyond reach */
     GULAMBITOK_BAD_LINE = 17,     /* the program desks only */
-    GULAMBITOK_WRONG_OWNER = 18   /* picture; the slot given for a desk holds another desk's stamp */
+    GULAMBITOK_WRONG_OWNER = 18,  /* picture; the slot given for a desk holds another desk's stamp */
+    GULAMBITOK_BAD_SUMMARY = 21   /* a summary's length; for may, also its mark or a lag beyond its bound */
 };
 
 /* What compare writes. */
@@ -69,6 +70,8 @@ enum {
     GULAMBITOK_ROW_BYTES = 16,    /* for each of eight desks its phase, then its clock */
     GULAMBITOK_STAMP_BYTES = 20,
     GULAMBITOK_ODDS_BYTES = 2,    /* the two desks that picture finds at odds */
+    GULAMBITOK_SUMMARY_BYTES = 26,
+    GULAMBITOK_SUMMARY_DESK_BYTES = 3, /* the lags of one desk */
     GULAMBITOK_SEATS = 8,
     GULAMBITOK_PLACES = 32,
     GULAMBITOK_SLOTS = 32,
@@ -111,6 +114,16 @@ enum {
     GULAMBITOK_STAMP_OWNER_AT = 2,
     GULAMBITOK_STAMP_DESKS_AT = 3,
     GULAMBITOK_STAMP_ROW_AT = 4
+};
+
+/* Offsets in a summary, after its mark 53 55: the lags of desk j begin at
+ * GULAMBITOK_SUMMARY_LAGS_AT + GULAMBITOK_SUMMARY_DESK_BYTES * j. They are the largest lag of its phase
+ * in the seats of other desks, in waiting mail and in used slots; 0 where there is none. */
+enum {
+    GULAMBITOK_SUMMARY_LAGS_AT = 2,
+    GULAMBITOK_SUMMARY_SEATS_AT = 0, /* within the three of a desk */
+    GULAMBITOK_SUMMARY_MAIL_AT = 1,
+    GULAMBITOK_SUMMARY_SHELF_AT = 2
 };
 
 /* Start writes a fresh book under a setup: rows zero, no seat started, all places free. What the
@@ -214,6 +227,121 @@ uint8_t gulambitok_label_newest(size_t desks, size_t phases, const size_t *limit
                                 size_t ahead, const uint8_t *first, size_t first_len,
                                 const uint8_t *second, size_t second_len, uint8_t *answer,
                                 size_t answer_len);
+
+/* The office: start and every change with the book and the papers beside it: a summary. Each call
+ * asks all that its call on the book alone asks, then of the papers, for the summary its length alone
+ * (21). Accepted, it answers and leaves the book as that call does, and the summary is right of the
+ * book afterwards, whatever it held. Refused, no byte of any buffer changes. A change by the calls on
+ * the book alone leaves the summary as it was; the next accepted change through the office makes it
+ * right again. */
+
+/* Start, through the office. Refusals: 1, 2, 21. */
+uint8_t gulambitok_office_start(uint8_t *book, size_t book_len, uint8_t *summary, size_t summary_len,
+                                size_t desks, size_t phases, const size_t *limits, size_t limits_len,
+                                size_t seat_lag, size_t shelf_lag, size_t back, size_t ahead);
+
+/* Local, through the office. Refusals: 1, 3, 8, 10, 15, 21. */
+uint8_t gulambitok_office_local(uint8_t *book, size_t book_len, uint8_t *summary, size_t summary_len,
+                                size_t desk, size_t keep, uint8_t *stamp, size_t stamp_len,
+                                uint8_t *slot, size_t slot_len);
+
+/* Send, through the office. Refusals: 1, 3, 4, 8, 9, 10, 15, 21. */
+uint8_t gulambitok_office_send(uint8_t *book, size_t book_len, uint8_t *summary, size_t summary_len,
+                               size_t desk, size_t to, size_t keep, uint8_t *stamp, size_t stamp_len,
+                               uint8_t *place, size_t place_len, uint8_t *slot, size_t slot_len);
+
+/* Receive, through the office. Refusals: 1, 3, 5, 6, 8, 10, 15, 21. */
+uint8_t gulambitok_office_receive(uint8_t *book, size_t book_len, uint8_t *summary, size_t summary_len,
+                                  size_t desk, size_t place, size_t keep, uint8_t *stamp, size_t stamp_len,
+                                  uint8_t *learnt, size_t learnt_len, uint8_t *slot, size_t slot_len);
+
+/* Reset, through the office. Refusals: 1, 3, 10, 11, 12, 13, 15, 21. */
+uint8_t gulambitok_office_reset(uint8_t *book, size_t book_len, uint8_t *summary, size_t summary_len,
+                                size_t desk, size_t keep, uint8_t *stamp, size_t stamp_len,
+                                uint8_t *slot, size_t slot_len);
+
+/* Drop, through the office: without the stamp a lag may be lower. Refusals: 1, 5, 21. */
+uint8_t gulambitok_office_drop(uint8_t *book, size_t book_len, uint8_t *summary, size_t summary_len,
+                               size_t slot);
+
+/* Discard, through the office: without the mail a lag may be lower. Refusals: 1, 5, 21. */
+uint8_t gulambitok_office_discard(uint8_t *book, size_t book_len, uint8_t *summary, size_t summary_len,
+                                  size_t place);
+
+/* May a desk reset? Asked of a setup and a summary, without the book. Writes in one byte the number
+ * that its reset would be answered about lags: GULAMBITOK_DONE, 11, 12 or 13. With a right summary of
+ * the book and its setup that is just what a reset that is not kept is answered; a kept one may be
+ * refused by 10 besides, where no slot is free. Refusals: 2, 3, 15, 21. */
+uint8_t gulambitok_may(size_t desks, size_t phases, const size_t *limits, size_t limits_len,
+                       size_t seat_lag, size_t shelf_lag, size_t back, size_t ahead,
+                       const uint8_t *summary, size_t summary_len, size_t desk, uint8_t *answer,
+                       size_t answer_len);
+
+/* The papers beside a book, and the office's calls with them: each passes the parts on to the call of
+ * the same name above. Where a further paper comes it is one more part, and the caller's code stays. */
+struct gulambitok_papers {
+    uint8_t *summary;
+    size_t summary_len;
+};
+
+static inline uint8_t gulambitok_papers_start(uint8_t *book, size_t book_len,
+                                              const struct gulambitok_papers *papers, size_t desks,
+                                              size_t phases, const size_t *limits, size_t limits_len,
+                                              size_t seat_lag, size_t shelf_lag, size_t back, size_t ahead)
+{
+    return gulambitok_office_start(book, book_len, papers->summary, papers->summary_len, desks, phases,
+                                   limits, limits_len, seat_lag, shelf_lag, back, ahead);
+}
+
+static inline uint8_t gulambitok_papers_local(uint8_t *book, size_t book_len,
+                                              const struct gulambitok_papers *papers, size_t desk,
+                                              size_t keep, uint8_t *stamp, size_t stamp_len,
+                                              uint8_t *slot, size_t slot_len)
+{
+    return gulambitok_office_local(book, book_len, papers->summary, papers->summary_len, desk, keep,
+                                   stamp, stamp_len, slot, slot_len);
+}
+
+static inline uint8_t gulambitok_papers_send(uint8_t *book, size_t book_len,
+                                             const struct gulambitok_papers *papers, size_t desk,
+                                             size_t to, size_t keep, uint8_t *stamp, size_t stamp_len,
+                                             uint8_t *place, size_t place_len, uint8_t *slot,
+                                             size_t slot_len)
+{
+    return gulambitok_office_send(book, book_len, papers->summary, papers->summary_len, desk, to, keep,
+                                  stamp, stamp_len, place, place_len, slot, slot_len);
+}
+
+static inline uint8_t gulambitok_papers_receive(uint8_t *book, size_t book_len,
+                                                const struct gulambitok_papers *papers, size_t desk,
+                                                size_t place, size_t keep, uint8_t *stamp,
+                                                size_t stamp_len, uint8_t *learnt, size_t learnt_len,
+                                                uint8_t *slot, size_t slot_len)
+{
+    return gulambitok_office_receive(book, book_len, papers->summary, papers->summary_len, desk, place,
+                                     keep, stamp, stamp_len, learnt, learnt_len, slot, slot_len);
+}
+
+static inline uint8_t gulambitok_papers_reset(uint8_t *book, size_t book_len,
+                                              const struct gulambitok_papers *papers, size_t desk,
+                                              size_t keep, uint8_t *stamp, size_t stamp_len,
+                                              uint8_t *slot, size_t slot_len)
+{
+    return gulambitok_office_reset(book, book_len, papers->summary, papers->summary_len, desk, keep,
+                                   stamp, stamp_len, slot, slot_len);
+}
+
+static inline uint8_t gulambitok_papers_drop(uint8_t *book, size_t book_len,
+                                             const struct gulambitok_papers *papers, size_t slot)
+{
+    return gulambitok_office_drop(book, book_len, papers->summary, papers->summary_len, slot);
+}
+
+static inline uint8_t gulambitok_papers_discard(uint8_t *book, size_t book_len,
+                                                const struct gulambitok_papers *papers, size_t place)
+{
+    return gulambitok_office_discard(book, book_len, papers->summary, papers->summary_len, place);
+}
 
 #ifdef __cplusplus
 }

@@ -10,6 +10,7 @@ struct lent {
     uint8_t book[GULAMBITOK_BOOK_BYTES], stamp[GULAMBITOK_STAMP_BYTES + 1], place[2], slot[2];
     uint8_t learnt[2], answer[2], row[GULAMBITOK_ROW_BYTES + 1], first[GULAMBITOK_STAMP_BYTES + 1];
     uint8_t second[GULAMBITOK_STAMP_BYTES], odds[GULAMBITOK_ODDS_BYTES + 1];
+    uint8_t summary[GULAMBITOK_SUMMARY_BYTES + 1];
 };
 
 static struct lent now, was;
@@ -38,6 +39,7 @@ static void done(const char *call, uint8_t answer)
 #define DONE(call) done(#call, call)
 #define EXPECT(held) expect(#held, held)
 #define BOOK now.book, sizeof now.book
+#define SUMMARY now.summary, GULAMBITOK_SUMMARY_BYTES
 #define LIST(...) (const size_t[]){__VA_ARGS__}, sizeof (const size_t[]){__VA_ARGS__} / sizeof(size_t)
 #define THREE(...) 3, 5, LIST(__VA_ARGS__), 2, 4, 2, 2
 #define X THREE(4, 3, 255)
@@ -61,6 +63,7 @@ static void limits_stand(void)
 #define NO_LIMITS 3, 5, NULL, 0, 2, 4, 2, 2
 #define OUT_OF_RANGE 3, 5, limits, 3, 2, 4, 2, 2
 #define NO_LABELS NULL, 0, NULL, 0, NULL, 0
+#define NO_SUMMARY NULL, 0, 3, NULL, 0
 
 /* Cut to a byte 260 would be 4, and so would the next be if cut to 32 bits. */
 static void limit_out_of_range(size_t desk)
@@ -70,6 +73,8 @@ static void limit_out_of_range(size_t desk)
         size_t limits[] = {4, 4, 4};
         limits[desk] = outside[i];
         REFUSED(BAD_SETUP, gulambitok_start(BOOK, OUT_OF_RANGE));
+        REFUSED(BAD_SETUP, gulambitok_office_start(BOOK, NULL, 0, OUT_OF_RANGE));
+        REFUSED(BAD_SETUP, gulambitok_may(OUT_OF_RANGE, NO_SUMMARY));
         REFUSED(BAD_SETUP, gulambitok_label_before(OUT_OF_RANGE, NO_LABELS));
         REFUSED(BAD_SETUP, gulambitok_label_compare(OUT_OF_RANGE, NO_LABELS));
         REFUSED(BAD_SETUP, gulambitok_label_newest(OUT_OF_RANGE, NO_LABELS));
@@ -94,6 +99,9 @@ static void limits_refused(void)
     REFUSED(BAD_SETUP, gulambitok_label_before(THREE(4, 3), NO_LABELS));
     REFUSED(BAD_SETUP, gulambitok_label_compare(THREE(4, 3, 255, 2), NO_LABELS));
     REFUSED(BAD_SETUP, gulambitok_label_newest(THREE(4, 3), NO_LABELS));
+    REFUSED(BAD_SETUP, gulambitok_may(NO_LIMITS, NO_SUMMARY));
+    REFUSED(BAD_SETUP, gulambitok_may(THREE(4, 3), NO_SUMMARY));
+    REFUSED(BAD_SETUP, gulambitok_may(THREE(4, 3, 255, 2), NO_SUMMARY));
     for (size_t desk = 0; desk < 3; desk++)
         limit_out_of_range(desk);
 }
@@ -577,6 +585,8 @@ static void rings_refused(void)
     const size_t outside[] = {0, 1, 2, 257, 259, 512, ((size_t)1 << 32) + 256, SIZE_MAX};
     for (size_t i = 0; i < sizeof outside / sizeof *outside; i++) {
         REFUSED(BAD_SETUP, gulambitok_start(BOOK, RING(outside[i])));
+        REFUSED(BAD_SETUP, gulambitok_office_start(BOOK, NULL, 0, RING(outside[i])));
+        REFUSED(BAD_SETUP, gulambitok_may(RING(outside[i]), NO_SUMMARY));
         REFUSED(BAD_SETUP, gulambitok_label_before(RING(outside[i]), NO_LABELS));
         REFUSED(BAD_SETUP, gulambitok_label_compare(RING(outside[i]), NO_LABELS));
         REFUSED(BAD_SETUP, gulambitok_label_newest(RING(outside[i]), NO_LABELS));
@@ -622,6 +632,321 @@ static void records_of_the_full_ring(void)
     DONE(gulambitok_label_compare(LONG_LAGS(255, 254), STAMP_TWICE, now.answer, 1));
 }
 
+#define NO_VALUES NULL, 0, NULL, 0
+
+/* Whatever is wrong with the book or the setup comes first; then a summary of other than 26 bytes. */
+static void office_start_refused(void)
+{
+    REFUSED(BAD_BOOK, gulambitok_office_start(now.book, sizeof now.book - 1, NULL, 0, NO_LIMITS));
+    REFUSED(BAD_SETUP, gulambitok_office_start(BOOK, NULL, 0, NO_LIMITS));
+    REFUSED(BAD_SETUP, gulambitok_office_start(BOOK, SUMMARY, 3, 4, LIST(4, 3, 255), 2, 4, 2, 2));
+    REFUSED(BAD_SUMMARY, gulambitok_office_start(BOOK, NULL, 0, ROOMY));
+    REFUSED(BAD_SUMMARY, gulambitok_office_start(BOOK, now.summary, 25, ROOMY));
+    REFUSED(BAD_SUMMARY, gulambitok_office_start(BOOK, now.summary, 27, ROOMY));
+}
+
+/* On a fresh book: what the book refuses comes first, a buffer too short next, then the summary's length. */
+static void office_refused(void)
+{
+    REFUSED(BAD_BOOK, gulambitok_office_local(now.book, sizeof now.book - 1, NULL, 0, 0, 0, NO_VALUES));
+    REFUSED(NO_DESK, gulambitok_office_local(BOOK, NULL, 0, 256, 1, NO_VALUES));
+    REFUSED(NO_ROOM, gulambitok_office_local(BOOK, NULL, 0, 0, 0, now.stamp, 19, NULL, 0));
+    REFUSED(NO_ROOM, gulambitok_office_local(BOOK, NULL, 0, 0, 1, now.stamp, 20, NULL, 0));
+    REFUSED(BAD_SUMMARY, gulambitok_office_local(BOOK, now.summary, 25, 0, 0, now.stamp, 20, NULL, 0));
+    REFUSED(BAD_SUMMARY, gulambitok_office_local(BOOK, now.summary, 27, 0, 1, now.stamp, 20, now.slot, 1));
+    REFUSED(BAD_BOOK, gulambitok_office_send(NULL, 0, NULL, 0, 0, 1, 0, NO_VALUES, NULL, 0));
+    REFUSED(SAME_DESK, gulambitok_office_send(BOOK, NULL, 0, 2, 2, 1, NO_VALUES, NULL, 0));
+    REFUSED(NO_ROOM, gulambitok_office_send(BOOK, NULL, 0, 0, 1, 0, now.stamp, 20, NO_VALUES));
+    REFUSED(BAD_SUMMARY, gulambitok_office_send(BOOK, NULL, 0, 0, 1, 0, now.stamp, 20, now.place, 1, NULL, 0));
+    REFUSED(BAD_BOOK, gulambitok_office_receive(NULL, 0, SUMMARY, 1, 0, 0, NO_VALUES, NULL, 0));
+    REFUSED(NO_PLACE, gulambitok_office_receive(BOOK, NULL, 0, 1, 0, 0, NO_VALUES, NULL, 0));
+    REFUSED(BAD_BOOK, gulambitok_office_reset(NULL, 0, SUMMARY, 0, 0, NO_VALUES));
+    REFUSED(NO_DESK, gulambitok_office_reset(BOOK, now.summary, 27, 3, 0, NO_VALUES));
+    REFUSED(NO_ROOM, gulambitok_office_reset(BOOK, now.summary, 27, 0, 0, now.stamp, 19, NULL, 0));
+    REFUSED(BAD_SUMMARY, gulambitok_office_reset(BOOK, now.summary, 27, 0, 0, now.stamp, 20, NULL, 0));
+    REFUSED(BAD_BOOK, gulambitok_office_drop(NULL, 0, NULL, 0, 0));
+    REFUSED(NO_PLACE, gulambitok_office_drop(BOOK, NULL, 0, 0));
+    REFUSED(BAD_BOOK, gulambitok_office_discard(NULL, 0, NULL, 0, 0));
+    REFUSED(NO_PLACE, gulambitok_office_discard(BOOK, NULL, 0, 31));
+}
+
+/* The changes through the office, by the summary itself or by papers that hold it. */
+static int by_papers;
+static const struct gulambitok_papers papers = {now.summary, GULAMBITOK_SUMMARY_BYTES};
+
+#define PAPERS BOOK, &papers
+#define BESIDE BOOK, SUMMARY
+#define ROOM(buffer) buffer, sizeof buffer
+
+static uint8_t office_start(void)
+{
+    return by_papers ? gulambitok_papers_start(PAPERS, ROOMY) : gulambitok_office_start(BESIDE, ROOMY);
+}
+
+static uint8_t office_local(size_t desk, size_t keep)
+{
+    return by_papers ? gulambitok_papers_local(PAPERS, desk, keep, ROOM(now.stamp), ROOM(now.slot))
+                     : gulambitok_office_local(BESIDE, desk, keep, ROOM(now.stamp), ROOM(now.slot));
+}
+
+#define SENT ROOM(now.stamp), ROOM(now.place), ROOM(now.slot)
+#define RECEIVED ROOM(now.stamp), ROOM(now.learnt), ROOM(now.slot)
+
+static uint8_t office_send(size_t desk, size_t to, size_t keep)
+{
+    return by_papers ? gulambitok_papers_send(PAPERS, desk, to, keep, SENT)
+                     : gulambitok_office_send(BESIDE, desk, to, keep, SENT);
+}
+
+static uint8_t office_receive(size_t desk, size_t place, size_t keep)
+{
+    return by_papers ? gulambitok_papers_receive(PAPERS, desk, place, keep, RECEIVED)
+                     : gulambitok_office_receive(BESIDE, desk, place, keep, RECEIVED);
+}
+
+static uint8_t office_reset(size_t desk, size_t keep)
+{
+    return by_papers ? gulambitok_papers_reset(PAPERS, desk, keep, ROOM(now.stamp), ROOM(now.slot))
+                     : gulambitok_office_reset(BESIDE, desk, keep, ROOM(now.stamp), ROOM(now.slot));
+}
+
+static uint8_t office_drop(size_t slot)
+{
+    return by_papers ? gulambitok_papers_drop(PAPERS, slot) : gulambitok_office_drop(BESIDE, slot);
+}
+
+static uint8_t office_discard(size_t place)
+{
+    return by_papers ? gulambitok_papers_discard(PAPERS, place) : gulambitok_office_discard(BESIDE, place);
+}
+
+/* Book and values are those of the call on the book alone, which is made on what was; the summary has its mark
+ * and the lags of desk 0, zeros for desks that never reset and for those that are not there. */
+static void changed(const char *what, uint8_t answer, uint8_t alone, uint8_t seats, uint8_t mail, uint8_t shelf)
+{
+    uint8_t *lags = was.summary + GULAMBITOK_SUMMARY_LAGS_AT;
+    memcpy(was.summary, "\x53\x55", 2);
+    memset(lags, 0, GULAMBITOK_SEATS * GULAMBITOK_SUMMARY_DESK_BYTES);
+    lags[GULAMBITOK_SUMMARY_SEATS_AT] = seats;
+    lags[GULAMBITOK_SUMMARY_MAIL_AT] = mail;
+    lags[GULAMBITOK_SUMMARY_SHELF_AT] = shelf;
+    expect(what, answer == GULAMBITOK_DONE && alone == GULAMBITOK_DONE && memcmp(&now, &was, sizeof now) == 0);
+    was = now;
+}
+
+#define ALONE was.book, sizeof was.book
+#define CHANGED(call, alone, seats, mail, shelf) changed(#call, call, alone, seats, mail, shelf)
+#define LOCAL(desk, keep, ...) CHANGED(office_local(desk, keep), \
+    gulambitok_local(ALONE, desk, keep, ROOM(was.stamp), ROOM(was.slot)), __VA_ARGS__)
+#define SEND(desk, to, keep, ...) CHANGED(office_send(desk, to, keep), \
+    gulambitok_send(ALONE, desk, to, keep, ROOM(was.stamp), ROOM(was.place), ROOM(was.slot)), __VA_ARGS__)
+#define RECEIVE(desk, place, keep, ...) CHANGED(office_receive(desk, place, keep), \
+    gulambitok_receive(ALONE, desk, place, keep, ROOM(was.stamp), ROOM(was.learnt), ROOM(was.slot)), __VA_ARGS__)
+#define RESET(desk, keep, ...) CHANGED(office_reset(desk, keep), \
+    gulambitok_reset(ALONE, desk, keep, ROOM(was.stamp), ROOM(was.slot)), __VA_ARGS__)
+#define DROP(slot, ...) CHANGED(office_drop(slot), gulambitok_drop(ALONE, slot), __VA_ARGS__)
+#define DISCARD(place, ...) CHANGED(office_discard(place), gulambitok_discard(ALONE, place), __VA_ARGS__)
+
+/* Whatever a summary held, its mark among it, an accepted change mends it. */
+static void spoil_summary(uint8_t byte)
+{
+    memset(now.summary, byte, GULAMBITOK_SUMMARY_BYTES);
+    was = now;
+}
+
+/* May writes its answer and nothing else; that is spoilt, so that the next call has to write it. */
+static void told(const char *what, uint8_t answer, uint8_t number)
+{
+    was.answer[0] = number;
+    expect(what, answer == GULAMBITOK_DONE && memcmp(&now, &was, sizeof now) == 0);
+    memset(now.answer, 0xEE, sizeof now.answer);
+    was = now;
+}
+
+#define MAY(desk) gulambitok_may(ROOMY, SUMMARY, desk, ROOM(now.answer))
+#define TOLD(number, call) told(#call, call, GULAMBITOK_##number)
+
+/* M is 2 and A 4. Desk 0 turns to 1 and 2; its stamps 0.1, 1.1 and 2.0 are in slots 0 to 2, its mail 1.1 goes to
+ * desk 1, and from there, with the phase 1, to slot 3, to desk 2 and, in place 0, to desk 0. */
+static void office_changes(void)
+{
+    spoil_summary(0xFF);
+    CHANGED(office_start(), gulambitok_start(ALONE, ROOMY), 0, 0, 0);
+    TOLD(DONE, MAY(0));
+    spoil_summary(0);
+    LOCAL(0, 1, 0, 0, 0);
+    spoil_summary(0xEE);
+    RESET(0, 0, 1, 0, 1);
+    EXPECT(memcmp(now.stamp, "ST\0\3\1\0\0\0", 8) == 0);
+    TOLD(DONE, MAY(0));
+    SEND(0, 1, 1, 1, 0, 1);
+    REFUSED(NO_ROOM, gulambitok_office_receive(BOOK, NULL, 0, 1, 0, 0, ROOM(now.stamp), NO_VALUES));
+    REFUSED(BAD_SUMMARY, gulambitok_office_receive(BOOK, now.summary, 25, 1, 0, 0, RECEIVED));
+    RESET(0, 1, 2, 1, 2);
+    TOLD(SEAT_BEHIND, MAY(0));
+    REFUSED(SEAT_BEHIND, office_reset(0, 0));
+    REFUSED(SEAT_BEHIND, gulambitok_office_reset(BOOK, NULL, 0, 0, 1, NO_VALUES));
+    RECEIVE(1, 0, 1, 2, 0, 2);
+    EXPECT(now.learnt[0] == 1 && now.slot[0] == 3);
+    TOLD(SEAT_BEHIND, MAY(0));
+    TOLD(DONE, MAY(1));
+    TOLD(DONE, MAY(2));
+    SEND(1, 2, 0, 2, 1, 2);
+    RECEIVE(2, 0, 0, 1, 0, 2);
+    TOLD(DONE, MAY(0));
+    SEND(2, 0, 0, 1, 1, 2);
+}
+
+/* Of that book: desk 0 turns on to 3, to 4 and to 0 again, and all hear of it through place 1. */
+static void office_lags(void)
+{
+    RESET(0, 0, 2, 2, 3);
+    TOLD(SEAT_BEHIND, MAY(0));
+    SEND(0, 1, 0, 2, 2, 3);
+    RECEIVE(1, 1, 0, 2, 2, 3);
+    SEND(0, 2, 0, 2, 2, 3);
+    RECEIVE(2, 1, 0, 0, 2, 3);
+    TOLD(DONE, MAY(0));
+    RESET(0, 0, 1, 3, 4);
+    TOLD(SHELF_BEHIND, MAY(0));
+    REFUSED(SHELF_BEHIND, office_reset(0, 0));
+    REFUSED(BAD_SUMMARY, gulambitok_office_drop(BOOK, NULL, 0, 0));
+    DROP(0, 1, 3, 3);
+    REFUSED(NO_PLACE, office_drop(0));
+    TOLD(DONE, MAY(0));
+    RESET(0, 0, 2, 4, 4);
+    TOLD(SEAT_BEHIND, MAY(0));
+    SEND(0, 1, 0, 2, 4, 4);
+    RECEIVE(1, 1, 0, 2, 4, 4);
+    SEND(0, 2, 0, 2, 4, 4);
+    RECEIVE(2, 1, 0, 0, 4, 4);
+    TOLD(MAIL_BEHIND, MAY(0));
+    REFUSED(MAIL_BEHIND, office_reset(0, 1));
+    REFUSED(BAD_SUMMARY, gulambitok_office_discard(BOOK, now.summary, 27, 0));
+    spoil_summary(0xEE);
+    DISCARD(0, 0, 0, 4);
+    REFUSED(NO_PLACE, office_discard(0));
+    TOLD(SHELF_BEHIND, MAY(0));
+    DROP(1, 0, 0, 4);
+    DROP(3, 0, 0, 3);
+    TOLD(DONE, MAY(0));
+}
+
+/* Of that book: calls on the book alone know no summary, so it is false until the office makes a change. */
+static void summary_left_alone(void)
+{
+    DONE(gulambitok_drop(BOOK, 2));
+    EXPECT(now.summary[GULAMBITOK_SUMMARY_LAGS_AT + GULAMBITOK_SUMMARY_SHELF_AT] == 3);
+    DONE(gulambitok_reset(BOOK, 0, 0, ROOM(now.stamp), NULL, 0));
+    DONE(gulambitok_reset(BOOK, 0, 0, ROOM(now.stamp), NULL, 0));
+    TOLD(DONE, MAY(0));
+    LOCAL(2, 0, 2, 0, 0);
+    TOLD(SEAT_BEHIND, MAY(0));
+}
+
+/* BadSetup comes first, then NoDesk, then the answer's room, then the summary. */
+static void may_refused(void)
+{
+    REFUSED(BAD_SETUP, gulambitok_may(NO_LIMITS, NO_SUMMARY));
+    REFUSED(BAD_SETUP, gulambitok_may(THREE(40, 50), SUMMARY, 0, ROOM(now.answer)));
+    REFUSED(BAD_SETUP, gulambitok_may(3, 4, LIST(40, 50, 60), 2, 4, 2, 2, SUMMARY, 0, ROOM(now.answer)));
+    REFUSED(NO_DESK, gulambitok_may(ROOMY, NO_SUMMARY));
+    REFUSED(NO_DESK, MAY(3));
+    REFUSED(NO_DESK, MAY(256));
+    REFUSED(NO_DESK, MAY((size_t)1 << 32));
+    REFUSED(NO_DESK, MAY(SIZE_MAX));
+    REFUSED(NO_ROOM, gulambitok_may(ROOMY, SUMMARY, 0, NULL, 0));
+    REFUSED(NO_ROOM, gulambitok_may(ROOMY, NULL, 0, 0, now.answer, 0));
+    REFUSED(BAD_SUMMARY, gulambitok_may(ROOMY, NULL, 0, 0, ROOM(now.answer)));
+    REFUSED(BAD_SUMMARY, gulambitok_may(ROOMY, now.summary, 25, 0, ROOM(now.answer)));
+    REFUSED(BAD_SUMMARY, gulambitok_may(ROOMY, now.summary, 27, 0, ROOM(now.answer)));
+}
+
+static void with_byte(size_t at, uint8_t byte)
+{
+    now.summary[at] = byte;
+    was = now;
+}
+
+/* Each lag as large as it may be, and larger: of all eight desks, though there are three. Desk 1 is asked. */
+static void lags_about_their_bounds(void)
+{
+    const uint8_t bounds[] = {2, 4, 4}, numbers[] = {11, 12, 13};
+    DONE(gulambitok_office_start(BESIDE, ROOMY));
+    for (size_t lag = 0; lag < GULAMBITOK_SEATS * GULAMBITOK_SUMMARY_DESK_BYTES; lag++) {
+        size_t at = GULAMBITOK_SUMMARY_LAGS_AT + lag;
+        with_byte(at, (uint8_t)(bounds[lag % 3] - 1));
+        TOLD(DONE, MAY(1));
+        with_byte(at, bounds[lag % 3]);
+        told("a lag at its bound", MAY(1), lag / 3 == 1 ? numbers[lag % 3] : 0);
+        with_byte(at, (uint8_t)(bounds[lag % 3] + 1));
+        REFUSED(BAD_SUMMARY, MAY(1));
+        with_byte(at, 0xFF);
+        REFUSED(BAD_SUMMARY, MAY(1));
+        REFUSED(NO_ROOM, gulambitok_may(ROOMY, SUMMARY, 1, NULL, 0));
+        with_byte(at, 0);
+    }
+}
+
+/* Both bytes of the mark are asked; the first lag that is as large as it may be decides. */
+static void marks_and_order(void)
+{
+    with_byte(0, 0x55);
+    REFUSED(BAD_SUMMARY, MAY(0));
+    with_byte(0, 0x53);
+    with_byte(1, 0x54);
+    REFUSED(BAD_SUMMARY, MAY(0));
+    with_byte(1, 0x55);
+    with_byte(10, 4);
+    TOLD(SHELF_BEHIND, MAY(2));
+    with_byte(9, 4);
+    TOLD(MAIL_BEHIND, MAY(2));
+    with_byte(8, 2);
+    TOLD(SEAT_BEHIND, MAY(2));
+    with_byte(9, 3);
+    TOLD(SEAT_BEHIND, MAY(2));
+    TOLD(DONE, MAY(1));
+}
+
+#define MAY_ROUND(desk) gulambitok_may(FULL, SUMMARY, desk, ROOM(now.answer))
+
+/* On the full ring M is 127 and A 255: no byte is too large for a stamp's lag. Desk 1 has not started. */
+static void may_on_the_full_ring(void)
+{
+    DONE(gulambitok_office_start(BESIDE, FULL));
+    for (int i = 0; i < 127; i++) {
+        TOLD(DONE, MAY_ROUND(0));
+        DONE(gulambitok_office_reset(BESIDE, 0, 0, ROOM(now.stamp), NULL, 0));
+    }
+    TOLD(SEAT_BEHIND, MAY_ROUND(0));
+    EXPECT(memcmp(now.summary, "SU\x7F\0\0\0\0\0", 8) == 0);
+    with_byte(2, 126);
+    with_byte(4, 255);
+    TOLD(SHELF_BEHIND, MAY_ROUND(0));
+    with_byte(3, 254);
+    TOLD(MAIL_BEHIND, MAY_ROUND(0));
+    with_byte(3, 255);
+    REFUSED(BAD_SUMMARY, MAY_ROUND(1));
+    REFUSED(BAD_SETUP, gulambitok_may(LONG_LAGS(0, 255), SUMMARY, 0, ROOM(now.answer)));
+}
+
+static void office(void)
+{
+    office_start_refused();
+    DONE(gulambitok_start(BOOK, ROOMY));
+    office_refused();
+    memset(now.answer, 0xEE, sizeof now.answer);
+    for (by_papers = 0; by_papers < 2; by_papers++) {
+        office_changes();
+        office_lags();
+        summary_left_alone();
+    }
+    may_refused();
+    lags_about_their_bounds();
+    marks_and_order();
+    may_on_the_full_ring();
+}
+
 int main(void)
 {
     memset(&now, 0xEE, sizeof now);
@@ -646,5 +971,6 @@ int main(void)
     one_limit_in_the_header();
     full_ring();
     records_of_the_full_ring();
+    office();
     return wrong;
 }

@@ -14,7 +14,7 @@
 #include <stdlib.h>
 
 /* The guard is a whole count of numbers, so that a list begins where one may stand. */
-enum { GUARD = 24, NUMBERS = 6, BUFFERS = 4 };
+enum { GUARD = 24, NUMBERS = 7, BUFFERS = 5 };
 
 struct lent {
     size_t length;
@@ -58,6 +58,14 @@ static uint8_t call(uint8_t place, const size_t *n, const struct lent *lent)
     case 12: return gulambitok_label_before(SETUP(0), LENT(1), LENT(2), LENT(3));
     case 13: return gulambitok_label_compare(SETUP(0), LENT(1), LENT(2), LENT(3));
     case 14: return gulambitok_label_newest(SETUP(0), LENT(1), LENT(2), LENT(3));
+    case 15: return gulambitok_office_start(LENT(0), LENT(1), SETUP(2));
+    case 16: return gulambitok_office_local(LENT(0), LENT(1), n[0], n[1], LENT(2), LENT(3));
+    case 17: return gulambitok_office_send(LENT(0), LENT(1), n[0], n[1], n[2], LENT(2), LENT(3), LENT(4));
+    case 18: return gulambitok_office_receive(LENT(0), LENT(1), n[0], n[1], n[2], LENT(2), LENT(3), LENT(4));
+    case 19: return gulambitok_office_reset(LENT(0), LENT(1), n[0], n[1], LENT(2), LENT(3));
+    case 20: return gulambitok_office_drop(LENT(0), LENT(1), n[0]);
+    case 21: return gulambitok_office_discard(LENT(0), LENT(1), n[0]);
+    case 22: return gulambitok_may(SETUP(0), LENT(1), n[6], LENT(2));
     }
     exit(2);
 }

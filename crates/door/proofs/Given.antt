@@ -85,8 +85,8 @@ byte-given t u l m g f v z e =
 
 -- a value whose bytes f are that one
 pub byte-as : (f : Value → List ℕ) → f nothing ≡ [] → (t l : List ℕ) (r : ℕ) (v : Value) (a : Answer) → a ≡ accepted v
-    → (u : ℕ) → u ∷ [] ≡ f v → GivesByte u t l r → Gives a (lent 1 f t l ∷ []) r
-byte-as f none t l r v a e u x g = subst (λ (b : Answer). Gives b (lent 1 f t l ∷ []) r) (sym e) (g f v none (sym x))
+    → (u : ℕ) → GivesByte u t l r → u ∷ [] ≡ f v → Gives a (lent 1 f t l ∷ []) r
+byte-as f none t l r v a e u g x = subst (λ (b : Answer). Gives b (lent 1 f t l ∷ []) r) (sym e) (g f v none (sym x))
 
 -- the record of a stamp
 abbrev recordOf : ℕ → Stamp → List ℕ

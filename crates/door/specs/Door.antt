@@ -10,11 +10,13 @@
 --                    where it has none
 --   whichByte w      the byte of one of two records, or of neither
 --   whichIn v        the byte of the newest of two records that a value relates; none where it relates none
+--   foretoldIn v     the one byte of the number that a reset would be answered, in a value; none where it has none
 --   Lent, lent n f t t′   a buffer that the caller lends for a value: it must have n bytes, f tells those of the value, and the
 --                    whole buffer is t before the call and t′ afterwards
 --   byteTo t t′, whichTo t t′, rowTo t t′   the buffer is lent for a byte, for the newest of two records, for sixteen row bytes
 --   placeTo t t′, learntTo t t′   the buffer is lent for a place, for the number of desks learnt of
 --   oddsTo t t′      the buffer is lent for two desks at odds
+--   foretoldTo t t′  the buffer is lent for the number that a reset would be answered
 --   slotTo q t t′    the buffer is lent for the slot of an event: it must have a byte where the event is to be kept, q
 --   recordTo D t t′  the buffer is lent for a stamp record with the number D of desks
 --   stampTo s t t′   the buffer is lent for a stamp record with the D of the book s
@@ -25,8 +27,9 @@
 --   Gets a ls n      what a caller gets who is answered a: the number n, and every byte of the lent buffers ls
 --   Gives a ls n     the same, with NoRoom as one more reason where one of ls is too short
 --   GivesByte u t t′ n   the number n, and the one byte u of whatever value, in the buffer that is t before and t′ afterwards
---   Makes c s s′ ls n   what a caller gets who lends ls to the call c on the book s: the same, and every byte s′ of the book,
---                    which is as it was where one of ls is too short
+--   Leaves a x y x′ ls n   what a caller gets who lends ls to a call that is answered a and turns x into y: the same, and x′ is what is
+--                    left: x as it was where one of ls is too short, and else y
+--   Makes c s s′ ls n   the same of the call c on the book s, of which s′ is every byte afterwards
 use Prim.Native.Nat.{ℕ}
 use mathlib.Core.Path.{_≡_}
 use mathlib.Core.Bool.{Bool, false, not, _||_}
@@ -87,6 +90,9 @@ whichByte Neither = 0
 abbrev pub whichIn : Value → List ℕ
 whichIn v = listed (λ r. one (whichByte (newer r))) (v .relation)
 
+abbrev pub foretoldIn : Value → List ℕ
+foretoldIn v = listed one (v .foretold)
+
 pub data Lent : Type 0 where
   lent : ℕ → (Value → List ℕ) → List ℕ → List ℕ → Lent
 
@@ -104,6 +110,9 @@ learntTo = lent 1 learntIn
 
 abbrev pub oddsTo : List ℕ → List ℕ → Lent
 oddsTo = lent 2 oddsIn
+
+abbrev pub foretoldTo : List ℕ → List ℕ → Lent
+foretoldTo = lent 1 foretoldIn
 
 abbrev pub slotTo : Bool → List ℕ → List ℕ → Lent
 slotTo q = lent (pick q 1 0) slotByte
@@ -141,6 +150,9 @@ Gives a ls n = Gets (cramped (short ls) a) ls n
 abbrev pub GivesByte : ℕ → List ℕ → List ℕ → ℕ → Type 0
 GivesByte u t t′ n = (f : Value → List ℕ) (v : Value) → f nothing ≡ [] → f v ≡ one u → Gives (accepted v) (lent 1 f t t′ ∷ []) n
 
-pub record Makes (c : Call) (s s′ : List ℕ) (ls : List Lent) (n : ℕ) : Type 0 where
-  pub answer : Gives (answerTo s c) ls n
-  pub book : s′ ≡ pick (short ls) s (bookAfter s c)
+pub record Leaves {A : Type 0} (a : Answer) (x y x′ : A) (ls : List Lent) (n : ℕ) : Type 0 where
+  pub answer : Gives a ls n
+  pub left : x′ ≡ pick (short ls) x y
+
+abbrev pub Makes : Call → List ℕ → List ℕ → List Lent → ℕ → Type 0
+Makes c s s′ ls n = Leaves (answerTo s c) s (bookAfter s c) s′ ls n

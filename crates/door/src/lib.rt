@@ -12,11 +12,13 @@ ghost use Rattle.rules.specs.Model.{refusal};
 ghost use Rattle.rules.specs.Labels.{newer};
 ghost use Rattle.book.specs.Layout.{recordSize};
 ghost use Rattle.book.specs.Stamps.{filled};
-ghost use Rattle.rules.specs.Replies.{slotIn, stampedSays, receivedSays, postedSays, toldSays, comparedSays, picturedSays};
+ghost use Rattle.rules.specs.Replies.{slotIn, stampedSays, receivedSays, postedSays};
+ghost use Rattle.rules.specs.Replies.{toldSays, comparedSays, picturedSays, foretoldSays};
 ghost use Rattle.door.specs.Door.{numbersBy, relationByte, whichByte, one, byteTo, placeTo, learntTo, slotTo};
-ghost use Rattle.door.specs.Door.{oddsTo, whichTo, recordTo};
+ghost use Rattle.door.specs.Door.{oddsTo, whichTo, foretoldTo, recordTo};
 ghost use Rattle.door.specs.Door.{cramped, Gets, Gives, GivesByte};
 use rules::Compared;
+use rules::Foretold;
 use rules::Kept;
 use rules::Pictured;
 use rules::Posted;
@@ -141,6 +143,16 @@ pub fn give_newest(target: &mut [u8], compared: Compared) -> u8
     match compared {
         Compared::Is(relation) => give_byte(target, newer_byte(relation)),
         Compared::Refused(n) => number_by(target.len() < 1, n),
+    }
+}
+
+// The number that a reset would be answered, 0 for yes.
+pub fn give_foretold(target: &mut [u8], foretold: Foretold) -> u8
+    ensures { λ r. ⌜ Gives (foretoldSays foretold) (foretoldTo (now (target .entry)) (now (target .exit)) ∷ []) r ⌝ }
+{
+    match foretold {
+        Foretold::Is(n) => give_byte(target, n),
+        Foretold::Refused(n) => number_by(target.len() < 1, n),
     }
 }
 

@@ -1,2 +1,3 @@
 -- Laws of calls through the C interface.
 pub mod Called
+pub mod Filed

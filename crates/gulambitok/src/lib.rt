@@ -11,6 +11,9 @@ ghost use Rattle.book.specs.Answers.{answerTo, targetAfter, beforeOf, compareOf
 ghost use Rattle.door.specs.Door.{numbersBy, wished, byteTo, oddsTo, placeTo, learntTo, slotTo, whichTo, rowTo, stampTo};
 ghost use Rattle.door.specs.Door.{Gives, Makes};
 
+// The calls of the office, and may.
+pub mod papers;
+
 // Start writes a fresh book: rows zero, no seat started, all places free.
 #[no_mangle]
 pub extern "C" fn gulambitok_start(

@@ -1,0 +1,2 @@
+-- What the C functions of the office promise.
+pub mod Filed
