@@ -10,6 +10,11 @@ value. Between the stamp and any slot receive says how many other desks' entries
 changed. Picture takes any number of slots; its values are a yes, or the two desks
 at odds.
 
+The office's calls are start and the changes with a summary beside the book (bytes
+of any length, too): they take both and hand back (number, values, book, summary).
+May takes a setup, a summary and a desk, but no book, and hands back (number,
+values): what a reset there would be answered about lags, 0 for yes.
+
 Off the book, the calls take a setup and two stamp records and hand back
 (number, values). A record does not say of how many phases its ring is: the setup
 does. A P of 256 is that number everywhere but in the header, where its byte is 0.
@@ -22,9 +27,12 @@ from itertools import combinations, permutations
  PHASE_FULL, MAIL_FULL, SHELF_FULL, SEAT_BEHIND, MAIL_BEHIND, SHELF_BEHIND,
  BAD_STAMP, NO_ROOM, OUT_OF_REACH, BAD_LINE, WRONG_OWNER) = range(19)
 
+BAD_SUMMARY = 21
+
 BOOK_BYTES = 1456
 RECORD_BYTES = 20
 ROW_BYTES = 16
+SUMMARY_BYTES = 26
 SEATS, PLACES, SLOTS = 8, 32, 32
 SEAT_AT, MAIL_AT, SHELF_AT = 16, 176, 816
 
@@ -33,6 +41,7 @@ SEAT_MARK = bytes.fromhex("5345")
 MAIL_MARK = bytes.fromhex("4D41")
 SHELF_MARK = bytes.fromhex("5348")
 STAMP_MARK = bytes.fromhex("5354")
+SUMMARY_MARK = bytes.fromhex("5355")
 
 NO_ROW = bytes(ROW_BYTES)
 FREE = bytes(RECORD_BYTES - 2)
@@ -617,6 +626,115 @@ def picture(book, *slots):
         return refused(number, book)
     odds = first_at_odds(book, [stamp_of_slot(book, slot) for slot in slots])
     return DONE, odds or (True,), book
+
+
+# The summary beside the book
+
+def summary_of(book):
+    """For each desk the largest lag among other desks' seats, mail and kept stamps, 0 where none."""
+    setup, mail, shelf = setup_of(book), mail_waiting(book), stamps_kept(book)
+    lags = [largest_lag(setup, book[own_entry(desk)], desk, rows)
+            for desk in range(setup.D)
+            for rows in (other_seats(book, setup, desk), mail, shelf)]
+    # No lag of a sound book is more than a byte holds: a remainder keeps a wrong one a byte, too.
+    return SUMMARY_MARK + bytes(lag % 256 for lag in lags).ljust(3 * SEATS, b"\0")
+
+
+def other_seats(book, setup, desk):
+    """The rows of the other desks below D, started or not."""
+    return [row_at(book, seat_at(other)) for other in range(setup.D) if other != desk]
+
+
+def mail_waiting(book):
+    return [row_at(book, place_at(place)) for place in range(PLACES) if place_used(book, place)]
+
+
+def stamps_kept(book):
+    return [row_at(book, slot_at(slot)) for slot in range(SLOTS) if slot_used(book, slot)]
+
+
+def largest_lag(setup, own, desk, rows):
+    """The largest that the entries for a desk in these rows lag behind its own phase."""
+    phases = {row[2 * desk] for row in rows}
+    return max((lag_behind(own, phase, setup.P) for phase in phases), default=0)
+
+
+# The office: start and every change, with a summary beside the book
+
+def through_office(call, book, summary, numbers):
+    """All reasons of the book first, then the summary's length alone; it is left true of the book."""
+    number, values, after = call(book, *numbers)
+    if number != DONE:
+        return number, values, after, summary
+    if len(summary) != SUMMARY_BYTES:
+        return BAD_SUMMARY, (), book, summary
+    return DONE, values, after, summary_of(after)
+
+
+def office_start(book, summary, *setup):
+    return through_office(start, book, summary, setup)
+
+
+def office_local(book, summary, *numbers):
+    return through_office(local, book, summary, numbers)
+
+
+def office_send(book, summary, *numbers):
+    return through_office(send, book, summary, numbers)
+
+
+def office_receive(book, summary, *numbers):
+    return through_office(receive, book, summary, numbers)
+
+
+def office_reset(book, summary, *numbers):
+    return through_office(reset, book, summary, numbers)
+
+
+def office_drop(book, summary, *numbers):
+    return through_office(drop, book, summary, numbers)
+
+
+def office_discard(book, summary, *numbers):
+    return through_office(discard, book, summary, numbers)
+
+
+# May a desk reset? The setup and the summary tell, and no book
+
+def may(setup, summary, desk):
+    """The value is what a reset would be answered about lags; 0 is yes."""
+    if not permitted(setup):
+        return BAD_SETUP, ()
+    setup = Setup(*setup)
+    if desk >= setup.D:
+        return NO_DESK, ()
+    if not summary_reads(setup, summary):
+        return BAD_SUMMARY, ()
+    return DONE, (told_of_lags(setup, *lags_told(summary, desk)),)
+
+
+def summary_reads(setup, summary):
+    """Length and mark hold, and of all eight desks no lag passes M, 2M or A."""
+    if len(summary) != SUMMARY_BYTES or summary[:2] != SUMMARY_MARK:
+        return False
+    return all(seats <= setup.M and mail <= 2 * setup.M and shelf <= setup.A
+               for seats, mail, shelf in (lags_told(summary, desk) for desk in range(SEATS)))
+
+
+def lags_told(summary, desk):
+    """A desk's three numbers: of other seats, of mail, of the shelf."""
+    return summary[2 + 3 * desk:5 + 3 * desk]
+
+
+def told_of_lags(setup, seats, mail, shelf):
+    """The first lag that is as large as it may be would refuse a reset."""
+    if seats == setup.M:
+        return SEAT_BEHIND
+    if mail == 2 * setup.M:
+        return MAIL_BEHIND
+    if shelf == setup.A:
+        return SHELF_BEHIND
+    return DONE
 
 
 # Stamp records, and the calls off the book

@@ -3,7 +3,8 @@
 Each event knows the set of all events that lead to it (and itself). A row is
 read off that set: for each desk the pair of its last event there, 0.0 if none.
 No pair is ever merged, and no lag goes round a ring. How much a receipt told is
-counted on these sets, and a picture is judged by them, too. Phases come round
+counted on these sets, and a picture is judged by them, too. Whether a desk may
+reset is told by the true phases that are furthest behind it. Phases come round
 only where they are printed or laid out as bytes.
 
 Beside its set each event has an ordinary vector, the counts of the events that
@@ -195,6 +196,25 @@ class Run:
         event = self.happen(desk, (self.own(desk)[0] + 1, 0), is_reset=True)
         return 0, (event, *self.kept(event, keep))
 
+    # What stands in the way of a reset
+
+    def furthest(self, desk):
+        """How many true phases other seats, waiting mail and kept stamps are behind a desk at most."""
+        rooms = ([self.pairs(other) for other in range(self.D) if other != desk],
+                 [mail[0].pairs for mail in self.mail if mail],
+                 [event.pairs for event in self.shelf if event])
+        own = self.own(desk)[0]
+        return [own - min((pairs[desk][0] for pairs in rows), default=own) for rows in rooms]
+
+    def may(self, desk):
+        """Yes, or the number for the first that can be no further behind."""
+        if desk >= self.D:
+            return 3, ()
+        bounds = {11: self.M, 12: 2 * self.M, 13: self.A}
+        behind = [number for (number, most), phases in zip(bounds.items(), self.furthest(desk))
+                  if phases >= most]
+        return 0, tuple(behind[:1]) or (True,)
+
     # Shelf and mail
 
     def drop(self, slot):
@@ -312,6 +332,11 @@ class Run:
         for event in self.shelf:
             parts += [b"SH", self.slot_bytes(event) if event else bytes(18)]
         return b"".join(parts)
+
+    def summary(self):
+        """Those beside its book."""
+        lags = [phases for desk in range(self.D) for phases in self.furthest(desk)]
+        return b"SU" + bytes(lags).ljust(24, b"\0")
 
     def mail_bytes(self, event, to):
         return bytes((event.desk + 1, to + 1)) + self.row(event.pairs)

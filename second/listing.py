@@ -6,6 +6,9 @@ Each call is made on the bytes (book.py) and, since the last accepted start, on
 the run whose phases never come round (line.py). Both must give the same answer
 and the same book, else Disagree is raised: that is demand 3, held line by line.
 A picture that is answered must be the one that ordinary vectors show as well.
+Start and every change go through the office, with a summary beside the book,
+which must be that of the run, too. What may answers from it must be what a reset
+of the book would answer.
 """
 
 import os
@@ -18,9 +21,10 @@ from second import book, line
 
 # How many numbers follow each verb; a start has any number of limits, a picture any number of slots.
 VERBS = {b"local": 2, b"send": 3, b"receive": 3, b"reset": 2,
-         b"drop": 1, b"discard": 1, b"before": 2, b"compare": 2}
+         b"drop": 1, b"discard": 1, b"before": 2, b"compare": 2, b"may": 1}
 LIST_VERBS = (b"start", b"picture")
 EVENTS = ("local", "send", "receive", "reset")
+CHANGES = ("start", *EVENTS, "drop", "discard")
 QUESTIONS = ("before", "compare")
 LONGEST = 64
 SHAPE = re.compile(rb"([a-z]+)((?: [0-9]{3})*)")
@@ -73,6 +77,11 @@ def in_field(field):
     return field if isinstance(field, str) else f"{field:03}"
 
 
+def yes_or_number(number):
+    """What a reset would be answered: a yes, or the number that stands in its way."""
+    return number or True
+
+
 def fields_of_bytes(values, desks):
     """Printed fields of what book.py hands back."""
     for value in values:
@@ -96,6 +105,7 @@ def fields_of_run(values, phases):
 class Program:
     def __init__(self):
         self.book = bytes(book.BOOK_BYTES)
+        self.summary = bytes(book.SUMMARY_BYTES)
         self.run = None
 
     def answer(self, text):
@@ -103,10 +113,22 @@ class Program:
         if parsed is None:
             return in_words(book.BAD_LINE)
         verb, numbers = parsed
-        number, values, self.book = getattr(book, verb)(self.book, *numbers)
+        number, values = self.call(verb, numbers)
         answer = in_words(number, fields_of_bytes(values, self.book[2]))
         self.hold(verb, numbers, answer)
         return answer
+
+    def call(self, verb, numbers):
+        """By the bytes: a change through the office, may without the book, any other on the book."""
+        if verb in CHANGES:
+            office = getattr(book, f"office_{verb}")
+            number, values, self.book, self.summary = office(self.book, self.summary, *numbers)
+        elif verb == "may":
+            number, values = book.may(book.setup_of(self.book), self.summary, *numbers)
+            values = map(yes_or_number, values)
+        else:
+            number, values, self.book = getattr(book, verb)(self.book, *numbers)
+        return number, values
 
     def hold(self, verb, numbers, answer):
         """Raise Disagree unless the other route answers alike."""
@@ -115,12 +137,16 @@ class Program:
             raise Disagree(f"{verb} {numbers}: bytes {answer!r}, events {other!r}")
         if self.run and self.run.book() != self.book:
             raise Disagree(f"{verb} {numbers}: the books differ")
+        if verb in CHANGES:
+            self.hold_summary(verb, numbers)
         if verb in EVENTS and answer.startswith("000"):
             self.hold_newest_labels()
         if verb in QUESTIONS and answer.startswith("000"):
             self.hold_label(*(self.run.shelf[slot] for slot in numbers))
         if verb == "picture" and answer.startswith("000"):
             self.hold_counts(numbers, answer)
+        if verb == "may" and answer.startswith("000"):
+            self.hold_reset(*numbers, answer)
 
     def start(self, numbers):
         if not line.permitted(*numbers):
@@ -130,7 +156,7 @@ class Program:
 
     def other(self, verb, numbers):
         if self.run is None:
-            return in_words(book.BAD_BOOK)
+            return in_words(book.BAD_SETUP if verb == "may" else book.BAD_BOOK)
         number, values = getattr(self.run, verb)(*numbers)
         return in_words(number, fields_of_run(values, self.run.P))
 
@@ -139,6 +165,17 @@ class Program:
         values = self.run.pictured_by_counts([self.run.shelf[slot] for slot in slots])
         if in_words(book.DONE, values) != answer:
             raise Disagree(f"picture {slots}: bytes {answer!r}, vectors {values}")
+
+    def hold_summary(self, verb, numbers):
+        """The one beside the book is that of the run."""
+        if self.run and self.run.summary() != self.summary:
+            raise Disagree(f"{verb} {numbers}: the summaries differ")
+
+    def hold_reset(self, desk, answer):
+        """A reset that is not kept would be answered so."""
+        number = book.reset(self.book, desk, 0)[0]
+        if in_words(book.DONE, [yes_or_number(number)]) != answer:
+            raise Disagree(f"may {desk}: summary {answer!r}, reset {number}")
 
     def hold_newest_labels(self):
         """The newest stamp with the one before it and one from long ago."""

@@ -11,7 +11,10 @@ of none to all, pictures with each two desks at odds and lists that do not fit,
 clocks about their desk's limit in every kind of row, limits that are not there,
 not due or too many, bytes damaged at every offset, phases off the ring, every
 phase byte in every kind of row under P of 256 and of 255, lags about the bounds
-from 255 to 0, a P byte of 0, 1 and 2, wrong lengths and odd numbers.
+from 255 to 0, a P byte of 0, 1 and 2, wrong lengths and odd numbers. Through the
+office the same changes with summaries of every length, true, false and garbage;
+may by summaries of sound books, beside the resets it speaks of, and with each of
+the 24 lags about its bound.
 The answer and every byte of every lent buffer, and of the bytes on both sides of
 it, must be alike.
 The first difference is printed and ends with 1.
@@ -30,7 +33,7 @@ import sys
 sys.path.insert(0, os.path.dirname(os.path.dirname(os.path.abspath(__file__))))
 
 from second import book, seeds
-from second.listing import EVENTS
+from second.listing import CHANGES, EVENTS
 
 # How many numbers each call takes, and the bytes its value buffers need. Limits and slots are lent as buffers.
 BOOK_CALLS = {
@@ -40,8 +43,12 @@ BOOK_CALLS = {
     "show": (1, (16,)), "write": (1, (20,)),
 }
 LABEL_CALLS = ("label_before", "label_compare", "label_newest")
+# Of each call of the office the one that it makes on the book.
+OFFICE_CALLS = {f"office_{name}": name for name in CHANGES}
 NEEDS = {name: needs for name, (_, needs) in BOOK_CALLS.items()}
 NEEDS.update((name, (1,)) for name in LABEL_CALLS)
+NEEDS.update((office, NEEDS[name]) for office, name in OFFICE_CALLS.items())
+NEEDS["may"] = (1,)
 
 # Numbers for the wish to keep: 0 is no, any other is yes.
 WISHES = (0, 1, 2, 255, 256, 2**32, 2**64 - 1)
@@ -81,11 +88,26 @@ ROWS = {"seat": (book.SEAT_BEHIND, lambda setup: setup.M),
         "mail": (book.MAIL_BEHIND, lambda setup: 2 * setup.M),
         "slot": (book.SHELF_BEHIND, lambda setup: setup.A)}
 
+# What each change is refused for on the book alone.
+REASONS = {
+    "start": (1, 2), "local": (1, 3, 8, 10), "send": (1, 3, 4, 8, 9, 10), "receive": (1, 3, 5, 6, 8, 10),
+    "reset": (1, 3, 10, 11, 12, 13), "drop": (1, 5), "discard": (1, 5),
+}
+
+# What a reset that is not kept is answered about lags, and what may answers.
+LAG_NUMBERS = (book.DONE, book.SEAT_BEHIND, book.MAIL_BEHIND, book.SHELF_BEHIND)
+
+# Lengths of summaries, of which 26 is good; of the larger ones two are 26 in 8 bits and in 16.
+SUMMARY_LENGTHS = (*range(41), 255, 256, 256 + 26, 1456, 2**16 + 26)
+
+# D, P, M and A, by which a byte holds lags that go far beyond their bounds, just beyond them, or never.
+MAY_BOUNDS = ((2, 200, 40, 120), (5, 9, 2, 7), (8, 254, 100, 200), (2, 256, 127, 254), (8, 256, 3, 255))
+
 RELATIONS = ("before", "after", "same", "concurrent", "crossed")
 WRONG_LENGTHS = (0, 1, 1455, 1457)
 WRONG_LABEL_LENGTHS = (0, 1, 2, 19, 21, 40)
 GUARD = 24
-DEFAULT_CALLS = 11250
+DEFAULT_CALLS = 15000
 SOUND_BOOKS = 600
 BATCH = 250
 
@@ -167,21 +189,31 @@ def answers_in(told, batch):
 
 # What the second opinion answers
 
+def made_on_book(name):
+    """The call that one of the office makes on the book; any other is itself."""
+    return OFFICE_CALLS.get(name, name)
+
+
 def answer_of(name, arguments):
-    """The number, the book afterwards and the values in the header's order."""
+    """The number, the book and any summary afterwards and the values in the header's order."""
     numbers, lent = parted(arguments)
     lent = [buffer.content() for buffer in lent]
     if name in LABEL_CALLS:
         number, values = getattr(book, name)(setup_in(numbers, lent[0]), *lent[1:3])
-        return number, None, values
-    if name == "start":
-        numbers = setup_in(numbers, lent[1])
+        return number, (), values
+    if name == "may":
+        number, values = book.may(setup_in(numbers[:-1], lent[0]), lent[1], numbers[-1])
+        return number, (), values
+    # The book, and beside it the office's summary.
+    changed = lent[:1 + (name in OFFICE_CALLS)]
+    if made_on_book(name) == "start":
+        numbers = setup_in(numbers, lent[len(changed)])
     if name == "write":
         numbers.append(lent[1])
     if name == "picture":
         numbers = numbers_in(lent[1])
-    number, values, after = getattr(book, name)(lent[0], *numbers)
-    if name == "send" and number == book.DONE:
+    number, values, *after = getattr(book, name)(*changed, *numbers)
+    if made_on_book(name) == "send" and number == book.DONE:
         place, stamp, *slot = values
         values = stamp, place, *slot
     if name == "picture" and len(values) == 2:
@@ -191,12 +223,12 @@ def answer_of(name, arguments):
 
 def needs(name, numbers):
     """The bytes that value buffers must have: an event that is not kept asks for no slot."""
-    return NEEDS[name][:-1] if name in EVENTS and numbers[-1] == 0 else NEEDS[name]
+    return NEEDS[name][:-1] if made_on_book(name) in EVENTS and numbers[-1] == 0 else NEEDS[name]
 
 
 def encode(value, after):
     if isinstance(value, book.Stamp):
-        return book.record_of(book.setup_of(after), value)
+        return book.record_of(book.setup_of(after[0]), value)
     if isinstance(value, bytes):
         return value
     if isinstance(value, str):
@@ -213,8 +245,8 @@ def expected(name, arguments):
     if short and (number == book.DONE or number > book.NO_ROOM):
         return book.NO_ROOM, [buffer.memory for buffer in lent]
     memories = {id(buffer): buffer.memory for buffer in lent}
-    if after is not None:
-        memories[id(lent[0])] = lent[0].with_content(after)
+    for changed, content in zip(lent, after):
+        memories[id(changed)] = changed.with_content(content)
     for out, value in zip(outs, values):
         memories[id(out)] = out.with_content(encode(value, after))
     return number, [memories[id(buffer)] for buffer in lent]
@@ -655,6 +687,18 @@ def call_on(rng, name, given, numbers):
     return name, [given, *numbers, *value_buffers(rng, name)]
 
 
+def office_call(rng, name, given, summary, numbers, rooms=None):
+    """A change on a lent book through the office, with a lent summary; value buffers are of these lengths, or any."""
+    if name == "start":
+        numbers = setup_lent(rng, *numbers)
+    values = value_buffers(rng, name) if rooms is None else buffers_of(rng, *rooms)
+    return f"office_{name}", [given, summary, *numbers, *values]
+
+
+def may_call(rng, setup, summary, desk, room=1):
+    return "may", [*setup_lent(rng, *setup), Lent(rng, summary), desk, *buffers_of(rng, room)]
+
+
 def fitting(rng, name, given):
     """A call on a lent book, with numbers mostly sensible."""
     return call_on(rng, name, given, some_numbers(rng, name, given.content()))
@@ -710,6 +754,20 @@ def trials(rng):
         yield from round_trials(rng)
         yield from label_trials(rng)
         yield from noise_trials(rng)
+        yield from summary_length_trials(rng)
+        yield from summary_content_trials(rng)
+        yield from summary_room_trials(rng)
+        yield from summary_reason_trials(rng)
+        yield from office_book_trials(rng)
+        yield from office_told_trials(rng)
+        yield from office_noise_trials(rng)
+        yield from office_run_trials(rng)
+        yield from may_bound_trials(rng)
+        yield from may_summary_trials(rng)
+        yield from may_desk_trials(rng)
+        yield from may_setup_trials(rng)
+        yield from may_reason_trials(rng)
+        yield from may_reset_trials(rng)
         for _ in range(SOUND_BOOKS):
             yield from sound_trials(rng)
 
@@ -1079,6 +1137,275 @@ def aimed(rng, name, content):
     return [rng.choice(used), rng.choice(used)]
 
 
+# Summaries, and books for the office
+
+def true_summary(rng, content):
+    return book.summary_of(content)
+
+
+def no_summary(rng, content):
+    """As the program has it at first."""
+    return bytes(book.SUMMARY_BYTES)
+
+
+def garbage(rng, content):
+    return rng.randbytes(book.SUMMARY_BYTES)
+
+
+def another_books(rng, content):
+    return book.summary_of(sound_book(rng))
+
+
+def unmarked_summary(rng, content):
+    return damaged_byte(rng, book.summary_of(content), rng.randrange(2))
+
+
+def false_summary(rng, content):
+    """One lag is another."""
+    return damaged_byte(rng, book.summary_of(content), rng.randrange(2, book.SUMMARY_BYTES))
+
+
+SUMMARIES = (true_summary, no_summary, garbage, another_books, unmarked_summary, false_summary)
+
+
+def summary_of_length(rng, content, length):
+    """The beginning of a true one, which garbage follows."""
+    return (book.summary_of(content) + rng.randbytes(length))[:length]
+
+
+def either_setup(rng):
+    return rng.choice((any_setup, full_ring_setup))(rng)
+
+
+def odd_setups(setup, desk):
+    """The setup with each number, a desk's limit or the list of limits made such as is not permitted."""
+    for part, (low, high) in book.RANGES.items():
+        wide = [more + getattr(setup, part) for more in WIDER]
+        for number in (0, low - 1, high + 1, *wide, 2**64 - 1):
+            yield setup._replace(**{part: number})
+    wide = [more + setup.limits[desk] for more in WIDER]
+    for limit in (0, 1, 256, *wide, 2**64 - 1):
+        yield setup._replace(limits=seeds.placed(setup.limits, desk, limit))
+    for more in (-setup.D, -1, 1, 256):
+        yield setup._replace(limits=(list(setup.limits) * 200)[:setup.D + more])
+
+
+def some_change(rng, name, content, setup_made=either_setup):
+    """All numbers of a change, mostly such as pass the first refusals."""
+    if name == "start":
+        setup = setup_made(rng)
+        return rng.choice([*odd_setups(setup, 0)]) if rng.random() < 0.3 else setup
+    if not book.sound(content) or rng.random() < 0.3:
+        return some_numbers(rng, name, content)
+    if name in EVENTS:
+        return aimed(rng, name, content) + some_wish(rng, name)
+    used = book.slot_used if name == "drop" else book.place_used
+    return [rng.choice([at for at in range(32) if used(content, at)] or [0])]
+
+
+def answered_change(rng, name, number, setup_made):
+    """A book, and numbers to which a change is answered so on it alone."""
+    while True:
+        content = sound_book_of(rng, setup_made(rng))
+        if number == book.SHELF_FULL:
+            content = shelf_with(rng, content, rng.randrange(content[2]), 0)
+        if number == book.BAD_BOOK:
+            content = content[1:] if name == "start" else damaged_byte(rng, content, rng.choice((0, 4, 9, 16)))
+        for _ in range(20):
+            numbers = some_change(rng, name, content, setup_made)
+            if getattr(book, name)(content, *numbers)[0] == number:
+                return content, numbers
+
+
+def books_of_every_kind(rng):
+    """Sound: with every phase, of desks that have not started, full, with news, and lags about their bounds."""
+    for P, turn in itertools.product(LARGE_RINGS, (0, 3, 6)):
+        yield every_phase_book(rng, P, turn)
+    for D in (2, 5, 8):
+        setup = setup_of_desks(rng, D)
+        yield fresh_book(setup)
+        yield level_book(setup, [rng.randrange(setup.P) for _ in range(D)])
+        for begun in range(2):
+            yield sound_book_of(rng, setup, [desk % 2 == begun for desk in range(D)])
+        yield told_book(rng, 0, 31, [LATER] * D)
+        yield pictured_book(rng, kinds_known(rng, D))[0]
+        for free in (0, 1):
+            yield shelf_with(rng, sound_book_of(rng, either_setup(rng)), 0, free)
+    for (P, M, A), kind, more in itertools.product(SEAM_LAGS, ROWS, (-1, 0)):
+        setup, own = large_setup(rng, 2, P, M=M, A=A), [rng.choice(SEAM_PHASES[:-1]), 9]
+        yield uneven_book(rng, setup, own, 0, kind, (own[0] - ROWS[kind][1](setup) - more) % P)
+    for _ in range(20):
+        yield sound_book_of(rng, either_setup(rng))
+
+
+# Changes through the office
+
+def summary_length_trials(rng):
+    """Each change that is done on its book, with a summary of every length."""
+    for name in CHANGES:
+        cases = [answered_change(rng, name, book.DONE, setup_made) for setup_made in (any_setup, full_ring_setup)]
+        for length in SUMMARY_LENGTHS:
+            content, numbers = rng.choice(cases)
+            summary = rng.choice((rng.randbytes(length), summary_of_length(rng, content, length)))
+            yield office_call(rng, name, Lent(rng, content), Lent(rng, summary), numbers, NEEDS[name])
+
+
+def summary_content_trials(rng):
+    """Each change that is done on its book, with a summary of every kind."""
+    for name, summary_made in itertools.product(CHANGES, SUMMARIES * 3):
+        content, numbers = answered_change(rng, name, book.DONE, either_setup)
+        summary = summary_made(rng, content)
+        yield office_call(rng, name, Lent(rng, content), Lent(rng, summary), numbers, NEEDS[name])
+
+
+def summary_room_trials(rng):
+    """Events, kept and not, with a value buffer too short or none, and summaries about their length."""
+    for name, keep in itertools.product(EVENTS, (0, 1)):
+        content, numbers = answered(rng, name, book.DONE, either_setup)
+        content = shelf_with(rng, content, numbers[0], 1)
+        needed = NEEDS[name]
+        for rooms in (needed, *(seeds.placed(needed, at, need - 1) for at, need in enumerate(needed))):
+            for length in (0, 25, 26, 27):
+                summary = Lent(rng, summary_of_length(rng, content, length))
+                yield office_call(rng, name, Lent(rng, content), summary, [*numbers, keep], rooms)
+
+
+def summary_reason_trials(rng):
+    """Each reason of the book beside summaries about their length; value buffers have room or have not."""
+    for setup_made, (name, reasons) in itertools.product((any_setup, full_ring_setup), REASONS.items()):
+        for number in reasons:
+            content, numbers = answered_change(rng, name, number, setup_made)
+            for length in (0, 25, 26, 27):
+                rooms = [need - rng.choice((0, 1)) for need in NEEDS[name]]
+                yield office_call(rng, name, Lent(rng, content), Lent(rng, rng.randbytes(length)), numbers, rooms)
+
+
+def office_book_trials(rng):
+    """Each change on books of every kind, beside summaries of every kind."""
+    for content, name in itertools.product(books_of_every_kind(rng), CHANGES):
+        summary = Lent(rng, rng.choice(SUMMARIES)(rng, content))
+        yield office_call(rng, name, Lent(rng, content), summary, some_change(rng, name, content))
+
+
+def office_told_trials(rng):
+    """Mail that tells of none to all of seven others."""
+    for count in range(8):
+        kinds = [LATER] * count + rng.choices((EQUAL, OLDER), k=7 - count)
+        rng.shuffle(kinds)
+        desk, place = rng.randrange(8), rng.randrange(32)
+        kinds.insert(desk, EQUAL)
+        content = shelf_with(rng, told_book(rng, desk, place, kinds), desk, 1)
+        yield office_call(rng, "receive", Lent(rng, content), Lent(rng, garbage(rng, content)),
+                          [desk, place, rng.choice(WISHES)], NEEDS["receive"])
+
+
+def office_noise_trials(rng):
+    """Books that are none: of wrong lengths, of zeros, at random, and damaged at some byte."""
+    for name in CHANGES:
+        contents = [(sound_book(rng) + b"\0")[:length] for length in WRONG_LENGTHS]
+        contents += [bytes(book.BOOK_BYTES), rng.randbytes(book.BOOK_BYTES)]
+        contents += [damaged_byte(rng, sound_book(rng), rng.randrange(book.BOOK_BYTES)) for _ in range(6)]
+        for content in contents:
+            summary = Lent(rng, rng.randbytes(rng.choice((25, 26, 26, 27))))
+            yield office_call(rng, name, Lent(rng, content), summary, some_change(rng, name, content))
+
+
+def office_run_trials(rng):
+    """Changes one after another from garbage on, at times on the book alone; who may reset is asked between them."""
+    for _ in range(60):
+        given, summary = Lent(rng, sound_book_of(rng, either_setup(rng))), Lent(rng, garbage(rng, b""))
+        for _ in range(7):
+            name = rng.choice(CHANGES[1:])
+            numbers = some_change(rng, name, given.content())
+            yield (call_on(rng, name, given, numbers) if rng.random() < 0.15
+                   else office_call(rng, name, given, summary, numbers))
+            setup = book.setup_of(given.content())
+            yield may_call(rng, setup, summary.content(), rng.randrange(setup.D))
+
+
+# Who may reset
+
+def bounds_of(setup):
+    """How far each kind of row may lag."""
+    return [bound(setup) for _, bound in ROWS.values()]
+
+
+def may_bound_trials(rng):
+    """Each of the 24 lags as large as it may be, one more and far more; the others are a sound book's."""
+    for D, P, M, A in MAY_BOUNDS:
+        setup = book.Setup(D, P, seeds.some_limits(rng, D), M, A, *seeds.some_reach(rng, P))
+        summary = book.summary_of(sound_book_of(rng, setup))
+        for at, more in itertools.product(range(24), (0, 1, 255)):
+            lag = min(255, bounds_of(setup)[at % 3] + more)
+            desk = at // 3 if at // 3 < D and rng.random() < 0.5 else rng.randrange(D)
+            yield may_call(rng, setup, with_byte(summary, 2 + at, lag), desk)
+
+
+def may_summary_trials(rng):
+    """True summaries of every length, and with every other mark."""
+    for length in SUMMARY_LENGTHS:
+        content = sound_book_of(rng, either_setup(rng))
+        setup = book.setup_of(content)
+        yield may_call(rng, setup, summary_of_length(rng, content, length), rng.randrange(setup.D))
+    for mark in (book.HEADER_MARK, book.SEAT_MARK, book.MAIL_MARK, book.SHELF_MARK, book.STAMP_MARK,
+                 b"SV", b"ST", b"TU", b"RU", b"US", b"S\0", b"\0U", b"su", bytes(2), b"\xff\xff"):
+        content = sound_book_of(rng, either_setup(rng))
+        setup = book.setup_of(content)
+        yield may_call(rng, setup, mark + book.summary_of(content)[2:], rng.randrange(setup.D))
+
+
+def may_desk_trials(rng):
+    """Desks that are there and that are not, however wide, beside a true summary and beside a bad one."""
+    for D, summary_made in itertools.product((2, 5, 8), (true_summary, unmarked_summary)):
+        content = sound_book_of(rng, setup_of_desks(rng, D))
+        for desk in (*range(9), *odd_numbers(D), *(more + rng.randrange(D) for more in WIDER)):
+            yield may_call(rng, book.setup_of(content), summary_made(rng, content), desk)
+
+
+def may_setup_trials(rng):
+    """Setups that are not permitted, by each part of them, whatever the summary and the desk are."""
+    for setup_made in (any_setup, full_ring_setup):
+        content = sound_book_of(rng, setup_made(rng))
+        for setup in odd_setups(book.setup_of(content), rng.randrange(content[2])):
+            summary = rng.choice((true_summary, *SUMMARIES))(rng, content)
+            yield may_call(rng, setup, summary, rng.choice((0, content[2], 2**64 - 1)), rng.choice((0, 1)))
+
+
+def may_reason_trials(rng):
+    """Each reason with and without each other, and answer buffers about their length."""
+    for setup_made, good, there, room in itertools.product(
+            (any_setup, full_ring_setup), (False, True), (False, True), (0, 1, 2)):
+        content = sound_book_of(rng, setup_made(rng))
+        setup = book.setup_of(content)
+        desk = rng.randrange(setup.D) + (0 if there else rng.choice((setup.D, 256, 2**32)))
+        for summary in (book.summary_of(content), book.summary_of(content)[:25],
+                        unmarked_summary(rng, content), beyond_a_bound(rng, setup, content)):
+            yield may_call(rng, setup if good else setup._replace(M=0), summary, desk, room)
+
+
+def beyond_a_bound(rng, setup, content):
+    """The summary with a lag too large, where a byte holds one."""
+    at = rng.choice([at for at in range(24) if bounds_of(setup)[at % 3] < 255])
+    return with_byte(book.summary_of(content), 2 + at, bounds_of(setup)[at % 3] + 1)
+
+
+def may_reset_trials(rng):
+    """By the summary of a sound book, beside the reset of that book: both answer alike about lags."""
+    for setup_made, number in itertools.product((any_setup, full_ring_setup), LAG_NUMBERS * 6):
+        content, (desk,) = answered(rng, "reset", number, setup_made)
+        yield from beside_the_reset(rng, content, desk)
+    for content in books_of_every_kind(rng):
+        yield from beside_the_reset(rng, content, rng.randrange(content[2]))
+
+
+def beside_the_reset(rng, content, desk):
+    setup, summary = book.setup_of(content), book.summary_of(content)
+    if book.may(setup, summary, desk) != (book.DONE, (book.reset(content, desk, 0)[0],)):
+        raise AssertionError("may and reset were meant to answer alike")
+    yield may_call(rng, setup, summary, desk)
+    yield call_on(rng, "reset", Lent(rng, content), [desk, 0])
+
+
 # Labels
 
 def random_label(rng, setup, phases):
@@ -1209,15 +1536,18 @@ def seen_of(asked):
 def phases_of(asked):
     """The P that a call goes by: as it is given, or as the header tells it."""
     numbers, lent = parted(asked.arguments)
-    if asked.name in ("start", *LABEL_CALLS):
+    if made_on_book(asked.name) in ("start", "may", *LABEL_CALLS):
         return numbers[1]
     return book.setup_of(lent[0].content()).P if lent[0].length == book.BOOK_BYTES else None
 
 
 def phases_read(asked):
-    """Of a book or of records that were read: the P, the kind of row and the phase, of each entry below D."""
+    """Of a book or of records that were read: the P, the kind of row and the phase, of each entry below D.
+
+    What the office reads is not counted, so that the other calls have every phase by themselves.
+    """
     P = phases_of(asked)
-    if P not in LARGE_RINGS or asked.name == "start" or asked.number in (
+    if P not in LARGE_RINGS or asked.name in ("start", "may", *OFFICE_CALLS) or asked.number in (
             book.BAD_BOOK, book.BAD_SETUP, book.BAD_STAMP):
         return set()
     return {(P, kind, phase) for kind, row in rows_of(asked) for phase in row}
@@ -1239,8 +1569,8 @@ def value_of(asked):
     if asked.name == "picture":
         answer, odds = (memory[GUARD:] for memory in asked.memories[2:])
         return () if answer[0] else tuple(odds[:2])
-    if asked.name == "receive" or NEEDS[asked.name] == (1,):
-        return asked.memories[2 if asked.name == "receive" else -1][GUARD]
+    if made_on_book(asked.name) == "receive" or NEEDS[asked.name] == (1,):
+        return asked.memories[-1 if NEEDS[asked.name] == (1,) else -2][GUARD]
     return None
 
 
@@ -1271,7 +1601,7 @@ def compare(library, calls, seed):
     return seen
 
 
-def summary(seen):
+def tell(seen):
     for name in NEEDS:
         print(f"  {name}: {numbers_of(seen, name, (False, True))}")
         print(f"    of these under P of 256: {numbers_of(seen, name, (True,))}")
@@ -1301,7 +1631,7 @@ def main():
     if seen is None:
         return 1
     print(f"{sum(seen.answers.values())} calls agreed; how often each number was answered:")
-    summary(seen)
+    tell(seen)
     return 0
 
 

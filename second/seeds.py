@@ -4,6 +4,7 @@
 
 The writer follows the run it writes (line.py), so that it knows which calls
 will be accepted, which rooms are full and what stands in the way of a reset.
+Where a lag may have changed, and before resets, it is often asked who may reset.
 """
 
 import itertools
@@ -50,8 +51,11 @@ ODD_COUNTS = (0, 1, 2, 3, 7, 8, 9, 13, 14)
 ODD_WISHES = (2, 3, 10, 11, 100, 101, 255, 256, 257, 999)
 
 WORDS = (b"start", b"local", b"send", b"receive", b"reset", b"drop",
-         b"discard", b"before", b"compare", b"picture", b"keep", b"show", b"write", b"newest",
-         b"Local", b"SEND", b"stars", b"loca", b"locals", b"pictures", b"")
+         b"discard", b"before", b"compare", b"picture", b"may", b"keep", b"show", b"write", b"newest",
+         b"Local", b"SEND", b"stars", b"loca", b"locals", b"pictures", b"mays", b"ma", b"")
+
+# How often the screen asks about a desk beside a line of this verb, before it and after it.
+WATCHED = {"reset": 0.2, "receive": 0.15, "drop": 0.25, "discard": 0.25}
 
 ODD_BYTES = b"\0\t\r\v\f \x1f\x7f\x80\xa0\xb2\xc2\xff.,-+_0129azAZ/:"
 
@@ -248,27 +252,71 @@ DAMAGES = (
 
 
 class Writer:
-    """A listing in the making, and the runs it makes; the last one goes on."""
+    """A listing in the making, and the runs it makes; the last one goes on.
 
-    def __init__(self, rng):
+    The screen, where there is one, asks who may reset; it is drawn apart, and all else goes on as if nobody asked.
+    """
+
+    def __init__(self, rng, screen=None):
         self.rng = rng
+        self.screen = screen
         self.lines = []
+        self.asked = 0
         self.run = None
         self.runs = []
 
     def say(self, verb, *numbers):
-        """Write a line; hand back the number and values the run answers."""
+        """Write a line, and what the screen asks beside it; hand back the number and values the run answers."""
+        watched = self.watched(verb, *numbers)
+        self.ask_may(watched)
+        answer = self.put(verb, *numbers)
+        self.ask_may(watched)
+        return answer
+
+    def put(self, verb, *numbers):
+        """Write this line alone."""
         self.lines.append(text_of(verb, *numbers))
-        return getattr(self.run, verb)(*numbers) if self.run else (1, ())
+        if self.run is None:
+            return (2 if verb == "may" else 1), ()
+        return getattr(self.run, verb)(*numbers)
+
+    def watched(self, verb, *numbers):
+        """The desk that the screen asks about beside a line: its own at a reset, at a receipt the sender."""
+        if self.screen is None or self.screen.random() >= WATCHED.get(verb, 0):
+            return []
+        if verb == "receive" and self.run and line.used(self.run.mail, numbers[1]):
+            return [self.run.mail[numbers[1]][0].desk]
+        return [numbers[0] if verb == "reset" else self.some_desk()]
 
     def start(self, *setup):
         """Write a start line; hand back its number. Where it is permitted, a run begins."""
         self.lines.append(start_text(*setup))
-        if not line.permitted(*setup):
-            return 2
-        self.run = line.Run(*setup)
-        self.runs.append(self.run)
-        return 0
+        good = line.permitted(*setup)
+        if good:
+            self.run = line.Run(*setup)
+            self.runs.append(self.run)
+        self.redraw(0.4)
+        return 0 if good else 2
+
+    def redraw(self, share, *desks):
+        """With this share the screen asks who may reset: each of these desks, or some desk."""
+        if self.screen and self.screen.random() < share:
+            self.ask_may(desks or [self.some_desk()])
+
+    def ask_may(self, desks):
+        for desk in desks:
+            self.put("may", desk)
+            self.asked += 1
+
+    def some_desk(self):
+        """At times one that is not there."""
+        if self.run is None or self.screen.random() < 0.1:
+            return self.screen.choice(ODD_NUMBERS)
+        return self.screen.randrange(self.run.D)
+
+    def length(self):
+        """How many lines there are but for those of the screen."""
+        return len(self.lines) - self.asked
 
     def write(self, text):
         """Any line, which the run follows; hand back its number."""
@@ -440,6 +488,7 @@ class Writer:
         elif number == 11:
             rows = [self.run.behind(desk, self.run.pairs(k)) for k in range(self.run.D)]
             self.tell(desk, rows.index(max(rows)))
+            self.redraw(0.3, desk)
         elif number == 12:
             self.clear("discard", [mail and mail[0] for mail in self.run.mail],
                        desk, 2 * self.run.M)
@@ -459,12 +508,13 @@ class Writer:
         for place, event in list(enumerate(room)):
             if event and self.run.behind(desk, event.pairs) >= most:
                 self.say(verb, place)
+                self.redraw(0.3, desk)
 
     def sprint(self):
         """One desk turns its ring, others follow when they must."""
         desk = self.rng.randrange(self.run.D)
         for _ in range(self.rng.choice((5, 10, 20, 3 * self.run.P))):
-            if len(self.lines) > 260:
+            if self.length() > 260:
                 return
             self.turn(desk, self.wish())
             self.now_and_then()
@@ -606,7 +656,7 @@ class Writer:
         if self.run.P > 5 and self.rng.random() < 0.3:
             self.start(3, 3, some_limits(self.rng, 3), 1, 2, 1, 2)
         for _ in range(self.rng.randint(2, 8)):
-            if len(self.lines) < 240:
+            if self.length() < 240:
                 self.gossip()
         for desk in self.rng.sample(range(self.run.D), 2):
             self.keep_more(desk)
@@ -706,8 +756,12 @@ class Writer:
             self.say(verb, *numbers, *wish)
 
     def bad_lines(self):
+        said = [text for text in self.lines if not text.startswith(b"may")]
         for _ in range(self.rng.randint(3, 12)):
-            self.write(damaged(self.rng, self.rng.choice(self.lines)))
+            self.write(damaged(self.rng, self.rng.choice(said)))
+        for _ in range(self.screen.randint(0, 3)):
+            self.write(damaged(self.screen, text_of("may", self.some_desk())))
+            self.asked += 1
 
     def bad_start(self):
         for _ in range(self.rng.randint(4, 12)):
@@ -790,6 +844,7 @@ SHORT_LISTINGS = (
     b"\n".join(b"picture" + b" 000" * count + tail for count in range(17) for tail in (b"", b" ")),
     b"start 002 003 003 003 001 001 001 001", b"start 002 003 003 003 001 001 001 001\r\n",
     b"start 256 003 003 003 001 001 001 001\nlocal 000 000\n",
+    b"may 000", b"may 000\nmay 999\nmay\nmay 0\nmay 000 000\nmay  000\nmays 000\n",
     *(b"\n".join(lines()) for lines in (counted_starts, limited_starts, ring_starts, long_starts)),
     *(b"x" * length for length in (63, 64, 65, 66)),
     *(b"start 002 005 004 002 002 004 002 002\n" + b" " * length + b"local 000 001\nlocal 000 001"
@@ -801,7 +856,7 @@ SHORT_LISTINGS = (
 
 def written(seed):
     rng = random.Random(seed)
-    writer = Writer(rng)
+    writer = Writer(rng, random.Random(f"screen {seed}"))
     if rng.random() < 0.2:
         writer.odd_numbers()
         writer.bad_start()
@@ -812,9 +867,10 @@ def written(seed):
     favourite = rng.choice((Writer.rounds, Writer.sprint, Writer.resets, Writer.wander,
                             Writer.stocktaking, Writer.last_clocks))
     wanted = rng.randint(100, 250)
-    while len(writer.lines) < wanted:
+    while writer.length() < wanted:
         scene = favourite if rng.random() < 0.3 else rng.choices(scenes, weights)[0]
         scene(writer)
+        writer.redraw(0.3, *range(writer.run.D + 1))
     return writer
 
 

@@ -4,7 +4,9 @@
     python3 second/stored.py stdout > crates/desks/stdout
 
 No line can give 014 (BadStamp) or 015 (NoRoom): no line makes a call that
-reads a record or writes one; and no call at all gives 007 (NoEvent). "crossed"
+reads a record or writes one; and no call at all gives 007 (NoEvent). Nor can one
+give 021 (BadSummary): the program's summary has its length, and is true of the
+book from the first accepted start on; before it there is no setup. "crossed"
 is reached by no line either: kept stamps in a book brought along from start
 never cross. Nor is mail that says of its sender just what is held: what a desk
 heard of a send by another way, it heard with a later event of that sender. Nor
@@ -78,6 +80,104 @@ OWN_LIMITS_ANSWERS = b"""\
 008
 """
 
+# Who may reset, from before any start on: a seat that has not started stands in the way, a stamp, then mail.
+MAY = b"""\
+may 000
+start 002 005 009 009 001 002 002 002
+may 000
+may 001
+may 002
+reset 000 000
+may 000
+reset 000 000
+may 001
+send 000 001 001
+may 000
+receive 001 000 000
+may 000
+reset 000 000
+may 000
+send 000 001 000
+receive 001 000 000
+may 000
+send 001 000 000
+reset 000 000
+may 000
+send 000 001 000
+receive 001 001 000
+may 000
+reset 000 000
+reset 000 001
+drop 000
+may 000
+reset 000 000
+may 000
+send 000 001 000
+receive 001 001 000
+may 000
+reset 000 000
+discard 000
+may 000
+reset 000 000
+may 000
+may 001
+start 002 005 009 009 001 002 002 002
+may 000
+"""
+
+MAY_ANSWERS = b"""\
+002
+000
+000 yes
+000 yes
+003
+000 000 001.000 000.000
+000 011
+011
+000 yes
+000 000 000 001.001 000.000 000
+000 011
+000 001 001.001 000.001 001
+000 yes
+000 000 002.000 000.000
+000 011
+000 000 000 002.001 000.000
+000 001 002.001 000.002 001
+000 yes
+000 000 001 002.001 000.003
+000 000 003.000 000.000
+000 011
+000 001 000 003.001 000.000
+000 001 003.001 000.004 001
+000 013
+013
+013
+000
+000 yes
+000 000 004.000 000.000
+000 011
+000 001 000 004.001 000.000
+000 001 004.001 000.005 001
+000 012
+012
+000
+000 yes
+000 000 000.000 000.000
+000 011
+000 yes
+000
+000 yes
+"""
+
+# Nearly lines that ask who may reset.
+MAY_SHAPES = (
+    b"may", b"may ", b"may 0", b"may 00", b"may 0000", b"may  000", b"may 000 ", b" may 000",
+    b"may 000 000", b"may 000 001", b"may 000 000 000", b"mays 000", b"ma 000", b"m 000", b"ay 000",
+    b"May 000", b"MAY 000", b"may000", b"may\t000", b"may 000\r", b"may\r", b"may 000\0", b"may 000?",
+    b"may 00a", b"may 0 0", b"may -01", b"may +01", b"may 0.0", b"may\xa0000", b"may yes", b"may 000 yes",
+    b"may reset 000", b"reset may 000", b"mayreset 000", b"may_reset 000", b"may 00\xb9", b"maybe 000",
+)
+
 X = (3, 5, (4, 4, 4), 2, 4, 2, 2)
 
 # With its newline.
@@ -132,6 +232,16 @@ class Writer(seeds.Writer):
         """A call whose number was found by hand."""
         told = self.say(verb, *numbers)[0]
         require(told == number, f"{verb} with {number}: line {len(self.lines)} answers {told}")
+
+    def may(self, number, desk):
+        """What a reset would be answered about lags, found by hand; 0 is a yes."""
+        told = self.say("may", desk)
+        require(told == (0, (number or True,)), f"may with {number}: line {len(self.lines)} answers {told}")
+
+    def may_reset(self, number, desk, keep=0):
+        """The same of it, and of the reset that is then made."""
+        self.may(number, desk)
+        self.answered(number, "reset", desk, keep)
 
     def kept(self, verb, *numbers):
         """The slot that a kept event answers."""
@@ -217,6 +327,22 @@ def no_book_yet(w):
     w.raw(b"", b"local 7", b"local 000", b"local 000 002", b"keep 000", b"picture 7", b"picture ")
     w.start(3, 4, (4, 4, 4), 2, 4, 2, 2)
     w.say("local", 0, 1)
+
+
+def nobody_may_yet(w):
+    """There is no setup before an accepted start: not even a desk is asked for."""
+    for desk in (0, 1, 7, 8, 255, 256, 999):
+        w.answered(2, "may", desk)
+    w.started(2, b"start 002 004 004 004 002 002 001 001")
+    w.answered(2, "may", 0)
+    w.started(17, b"start 002 005 004 002 002 001 001")
+    w.answered(2, "may", 1)
+    w.raw(*MAY_SHAPES)
+
+
+def may_by_hand(w):
+    for text in listing.lines_of(MAY):
+        w.write(text)
 
 
 def example(w):
@@ -775,6 +901,276 @@ def seats_not_started_count(w):
     w.say("reset", 0, 1)
 
 
+# Who may reset
+
+def others_hear(w, desk):
+    """Every other desk hears the latest of this one."""
+    for other in range(w.run.D):
+        if other != desk:
+            w.tell(desk, other)
+
+
+def may_turn(w, desk, phases):
+    """So many phases on a desk may reset and does, and all others hear of each."""
+    for _ in range(phases):
+        w.may_reset(0, desk)
+        others_hear(w, desk)
+
+
+def may_about_the_bounds(w):
+    """One phase below each bound a desk may reset, and at it it may not; the ring is as short as can be."""
+    for M, A, desks in ((2, 7, (0, 1, 2)), (3, 3, (1,)), (1, 4, (2,))):
+        w.start(3, max(2 * M, A) + 1, unlike(3, 200), M, A, 1, 1)
+        for desk in desks:
+            other, third = (desk + 1) % 3, (desk + 2) % 3
+            seats_about_M(w, desk, other, third)
+            mail_about_2M(w, desk, other, third)
+            shelf_about_A(w, desk, other)
+
+
+def seats_about_M(w, desk, other, third):
+    """Two seats lag alike, so that one that hears is not enough."""
+    for _ in range(w.run.M):
+        w.may_reset(0, desk)
+    w.may_reset(11, desk)
+    w.tell(desk, other)
+    w.may_reset(11, desk, 1)
+    w.may(0, other)
+    w.tell(desk, third)
+    w.may(0, desk)
+
+
+def mail_about_2M(w, desk, other, third):
+    """M is not the bound of mail; it is taken by its addressee, and discarded."""
+    place = w.mailed(desk, other)
+    may_turn(w, desk, 2 * w.run.M)
+    w.may_reset(12, desk)
+    w.say("receive", other, place, 0)
+    w.may(0, desk)
+    place = w.mailed(third, other)
+    may_turn(w, desk, 2 * w.run.M)
+    w.may_reset(12, desk, 1)
+    w.may(0, other)
+    w.say("discard", place)
+    w.may(0, desk)
+
+
+def shelf_about_A(w, desk, other):
+    """Whosever stamp it is."""
+    for owner in (desk, other):
+        slot = w.kept("local", owner)
+        may_turn(w, desk, w.run.A)
+        w.may_reset(13, desk)
+        w.may_reset(13, desk, 1)
+        w.may(0, other)
+        w.say("drop", slot)
+        w.may(0, desk)
+
+
+def lags_in_their_order(w):
+    """All three at their bounds, then all but one: seats come first, then mail, then the shelf."""
+    for mail, shelf in ((True, True), (True, False), (False, True), (False, False)):
+        w.start(3, 3, unlike(3, 60), 1, 2, 1, 1)
+        if mail:
+            w.say("send", 1, 2, 0)
+        if shelf:
+            w.say("local", 1, 1)
+        may_turn(w, 0, 1)
+        w.may_reset(0, 0)
+        w.may_reset(11, 0)
+        others_hear(w, 0)
+        if mail:
+            w.may_reset(12, 0)
+            w.say("discard", 0)
+        if shelf:
+            w.may_reset(13, 0)
+            w.say("drop", 0)
+        w.may_reset(0, 0)
+
+
+def may_on_a_full_shelf(w):
+    """The shelf is not asked for room: a reset is a yes that is refused only if it is kept."""
+    w.start(3, 3, unlike(3, 60), 1, 2, 1, 1)
+    for _ in range(32):
+        w.say("local", 1, 1)
+    w.say("send", 1, 2, 0)
+    for number in (0, 11):
+        w.may(number, 0)
+        w.answered(10, "reset", 0, 1)
+        w.may_reset(number, 0)
+    others_hear(w, 0)
+    w.may_reset(0, 0)
+    others_hear(w, 0)
+    for number, verb in ((12, "discard"), (13, "drop")):
+        w.may(number, 0)
+        w.answered(10, "reset", 0, 1)
+        w.may_reset(number, 0)
+        w.say(verb, 0)
+    for slot in range(1, 32):
+        w.may(13, 0)
+        w.say("drop", slot)
+    w.may_reset(0, 0, 1)
+
+
+def lags_that_are_lowered(w):
+    """By the drop or discard of the row that lags most, and of no other; the next one then lags most."""
+    for verb, number in (("drop", 13), ("discard", 12)):
+        w.start(3, 3, unlike(3, 60), 1, 2, 1, 1)
+        rows = []
+        for _ in range(2):
+            rows.append(w.kept("local", 1) if verb == "drop" else w.mailed(1, 2))
+            may_turn(w, 0, 1)
+        rows.append(w.kept("local", 1) if verb == "drop" else w.mailed(1, 2))
+        w.may(number, 0)
+        w.say(verb, rows[2])
+        w.may_reset(number, 0)
+        w.say(verb, rows[0])
+        w.may_reset(0, 0)
+        w.may(11, 0)
+        others_hear(w, 0)
+        w.may_reset(number, 0)
+        w.may(number, 0)
+        w.answered(5, verb, rows[0])
+        w.may(number, 0)
+        w.say(verb, rows[1])
+        w.may_reset(0, 0)
+
+
+def lags_lowered_by_receipts(w):
+    """Where a seat catches up, and where mail no longer waits; other mail is no help."""
+    w.start(3, 3, unlike(3, 60), 1, 2, 1, 1)
+    late = w.mailed(0, 2)
+    other = w.mailed(2, 1)
+    w.may_reset(0, 0)
+    w.may(11, 0)
+    w.say("receive", 1, other, 0)
+    w.may(11, 0)
+    places = [w.mailed(0, desk) for desk in (1, 2)]
+    w.may(11, 0)
+    w.say("receive", 1, places[0], 0)
+    w.may(11, 0)
+    w.say("receive", 2, places[1], 1)
+    w.may_reset(0, 0)
+    others_hear(w, 0)
+    w.may_reset(12, 0)
+    w.may(12, 0)
+    w.answered(6, "receive", 1, late, 0)
+    w.may(12, 0)
+    w.say("receive", 2, late, 0)
+    w.may_reset(0, 0)
+
+
+def lags_lowered_by_a_start(w):
+    """An accepted one alone: one that is refused or no line leaves all lags as they are."""
+    for number in (11, 12, 13):
+        w.start(3, 3, unlike(3, 60), 1, 2, 1, 1)
+        w.say("send", 1, 2, 1)
+        may_turn(w, 0, 1)
+        w.say("reset", 0, 0)
+        if number != 11:
+            others_hear(w, 0)
+        if number == 13:
+            w.say("discard", 0)
+        w.may(number, 0)
+        w.started(2, b"start 003 003 060 061 062 001 003 001 001")
+        w.may(number, 0)
+        w.started(17, b"start 003 003 060 061 001 002 001 001")
+        w.may(number, 0)
+        w.answered(number, "reset", 0, 1)
+        w.may(number, 0)
+        w.started(0, b"start 003 003 060 061 062 001 002 001 001")
+        w.may_reset(0, 0)
+
+
+def lags_that_are_raised(w):
+    """By what a desk that lags sends and keeps: its seat then catches up, but mail and stamp do not."""
+    w.start(3, 5, unlike(3, 60), 1, 1, 2, 2)
+    w.may_reset(0, 0)
+    w.tell(0, 2)
+    w.may(11, 0)
+    slot = w.kept("local", 1)
+    place = w.mailed(1, 2)
+    w.may(11, 0)
+    w.tell(0, 1)
+    w.may_reset(13, 0)
+    w.say("drop", slot)
+    w.may_reset(0, 0)
+    others_hear(w, 0)
+    w.may_reset(12, 0)
+    w.say("discard", place)
+    w.may_reset(0, 0)
+
+
+def used_rows_alone(w):
+    """Neither the own seat nor those above D, nor free places and slots, zeros though they have, ever lag."""
+    for D in (2, 7):
+        w.start(D, 7, unlike(D, 90), 1, 3, 2, 2)
+        w.say("send", 0, 1, 1)
+        w.say("send", 1, 0, 1)
+        w.say("drop", 0)
+        w.say("discard", 1)
+        w.say("discard", 0)
+        w.say("drop", 1)
+        may_turn(w, 0, 15)
+
+
+def seats_that_have_not_started(w):
+    """Each counts as long as it has heard nothing, and no other desk does."""
+    w.start(8, 3, unlike(8, 9), 1, 2, 1, 1)
+    w.may_reset(0, 0)
+    for desk in range(1, 8):
+        w.may_reset(11, 0)
+        w.may(0, desk)
+        w.tell(0, desk)
+        w.may(0, desk)
+    w.may_reset(0, 0)
+
+
+def desks_that_are_not_there(w):
+    """D and above, however wide, whatever lags; each that is there is told by its own lags."""
+    for D in range(2, 9):
+        w.start(D, 3, unlike(D, 9), 1, 2, 1, 1)
+        for desk in range(0, D, 2):
+            w.say("reset", desk, 0)
+        for desk in range(D):
+            w.may(0 if desk % 2 else 11, desk)
+        for desk in (*range(D, 10), 31, 255, 256, 256 + D - 1, 257, 512, 768, 999):
+            w.answered(3, "may", desk)
+
+
+def lags_about_nought(w):
+    """Of two rows of each kind one is from before 0 and one from after it: that of the larger byte lags more."""
+    w.start(3, 5, unlike(3, 60), 2, 4, 2, 2)
+    may_turn(w, 0, 4)
+    place, slot = w.mailed(1, 2), w.kept("local", 1)
+    w.may_reset(0, 0)
+    w.may_reset(0, 0)
+    w.tell(0, 1)
+    w.may_reset(11, 0)
+    w.tell(0, 2)
+    w.mailed(1, 2)
+    w.kept("local", 1)
+    may_turn(w, 0, 2)
+    w.may_reset(12, 0)
+    w.say("discard", place)
+    w.may_reset(13, 0)
+    w.say("drop", slot)
+    w.may_reset(0, 0)
+
+
+def may_round_the_ring(w):
+    """Before each turn of each desk every desk is asked, until all have come round."""
+    for D in (2, 3, 8):
+        w.start(D, 3, unlike(D, 9), 1, 2, 2, 1)
+        while turned(w.run) < 1:
+            lap(w)
+            lap(w)
+            for desk in range(D):
+                for asked in range(D):
+                    w.say("may", asked)
+                w.turn(desk, int(desk == w.run.own(0)[0] % D))
+
+
 # How much a desk learns
 
 def old_mail(w):
@@ -979,6 +1375,29 @@ def ring_of_256_at_eight(w):
     # Mail of 255 is old.
     for desk, place in enumerate(late, 1):
         w.learns(0, desk, place)
+
+
+def may_beyond_the_seam(w):
+    """On the full ring one phase below each bound and at it, where the byte that lags is the larger."""
+    for desk, other in ((0, 1), (1, 0)):
+        w.start(2, 256, unlike(2, 20), 127, 255, 127, 127)
+        turn_on(w, desk, 200)
+        w.tell(desk, other)
+        place, _, slot = w.say("send", desk, other, 1)[1]
+        turn_on(w, desk, 326)
+        w.may_reset(0, desk)
+        w.may_reset(11, desk)
+        w.tell(desk, other)
+        turn_on(w, desk, 453)
+        w.tell(desk, other)
+        w.may_reset(0, desk)
+        w.may_reset(12, desk)
+        w.learns(0, other, place)
+        w.may_reset(0, desk)
+        w.may_reset(13, desk)
+        w.say("drop", slot)
+        w.may_reset(0, desk)
+        w.may(0, other)
 
 
 def clock_of_255(w):
@@ -1272,16 +1691,22 @@ def unended(w):
 
 
 # Rings as large as a byte holds them, and nearly.
-RING_SECTIONS = (ring_start_lines, case_17_and_18, ring_of_256, ring_of_255, ring_of_256_at_eight)
+RING_SECTIONS = (ring_start_lines, case_17_and_18, ring_of_256, ring_of_255, ring_of_256_at_eight,
+                 may_beyond_the_seam)
+
+# Who may reset; the second ones are longer.
+MAY_SECTIONS = (lags_in_their_order, may_on_a_full_shelf, lags_that_are_lowered, lags_lowered_by_receipts,
+                lags_lowered_by_a_start, lags_that_are_raised, seats_that_have_not_started, lags_about_nought)
+LONG_MAY_SECTIONS = (desks_that_are_not_there, used_rows_alone, may_about_the_bounds, may_round_the_ring)
 
 SECTIONS = (
-    no_book_yet, example, case_1_and_2, case_3_to_8, case_9, case_10,
+    no_book_yet, nobody_may_yet, may_by_hand, example, case_1_and_2, case_3_to_8, case_9, case_10,
     case_11_and_12, case_13, case_14_to_16, limits_stay, start_lines,
     pictures, lists_of_slots, wrong_owners, pictures_out_of_reach,
-    nought_in_a_picture, clocks_beside_phases, two_of_four, every_two_of_eight,
+    nought_in_a_picture, clocks_beside_phases, two_of_four, every_two_of_eight, *MAY_SECTIONS,
     setups, odd_numbers, reasons_that_meet, lags_that_meet,
     bad_shapes, odd_wishes, long_lines, full_mail, full_shelf, last_slot, mail_behind,
-    shelf_behind, seats_not_started_count, old_mail, all_seven, older_and_newer, rings,
+    shelf_behind, seats_not_started_count, old_mail, all_seven, older_and_newer, *LONG_MAY_SECTIONS, rings,
     kept_rings, clock_of_255, clock_of_2, clock_of_255_beside_2, bench_and_office,
     nought_after_four, one_way_out_of_reach, reset_edge, resets_apart, pictures_of_rings,
     last_clocks, all_last_clocks, more_start_lines, *RING_SECTIONS, unended,
@@ -1317,6 +1742,7 @@ def check(w, printed):
     given = b"\n".join(w.lines)
     require(EXAMPLE_ANSWERS in printed and EXAMPLE in given, "the example")
     require(OWN_LIMITS_ANSWERS in printed and OWN_LIMITS in given, "cases 14 to 16")
+    require(MAY_ANSWERS in printed and MAY in given, "who may reset by hand")
     numbers = {int(text[:3]) for text in listing.lines_of(printed)}
     wanted = set(range(19)) - set(NO_LINE_GIVES)
     require(numbers == wanted, f"the numbers {wanted ^ numbers}")
@@ -1336,6 +1762,8 @@ def check(w, printed):
     check_learnt(w.runs)
     check_pictures(w.lines, listing.lines_of(printed))
     check_eight_desks(w.lines, listing.lines_of(printed))
+    check_may(w.lines)
+    check_may_lines(w.lines, listing.lines_of(printed))
 
 
 def check_runs(runs):
@@ -1616,6 +2044,112 @@ def check_eight_desks(lines, printed):
     longest = {verb for verb, _, answer in told if len(answer) + 1 == LONGEST_ANSWER}
     require(longest == {"send", "receive"}, f"answers of {LONGEST_ANSWER} bytes")
     require(max(map(len, printed)) < LONGEST_ANSWER, f"answers of {LONGEST_ANSWER} bytes at most")
+
+
+# By which of a desk's three lags are as large as they may be: what may answers.
+MAY_AT = {full: next((number for number, at in zip((11, 12, 13), full) if at), 0)
+          for full in itertools.product((False, True), repeat=3)}
+
+# What may answers, whether the reset behind it is kept, and what that is answered.
+MAY_RESETS = {(number, keep, told) for number in (0, 11, 12, 13)
+              for keep, told in ((0, number), (1, number), (1, 10))}
+
+# What may answers, what is then done, and what may answers then.
+MAY_LOWERED = {(13, "drop 0", 0), (12, "discard 0", 0), (11, "receive 0", 0), (12, "receive 0", 0),
+               *((number, f"start {told}", number if told else 0)
+                 for number in (11, 12, 13) for told in (0, 2, 17)),
+               (13, "drop 0", 13), (12, "discard 0", 12), (11, "receive 0", 11),
+               (13, "drop 5", 13), (12, "discard 5", 12), (12, "receive 6", 12)}
+
+# A line and its answer; where it asks of a desk that is there, its lags and what is about them.
+MayLine = collections.namedtuple("MayLine", "verb numbers answer asked")
+MayAsked = collections.namedtuple("MayAsked", "setup lags started own free beyond")
+MayFacts = collections.namedtuple("MayFacts", "at below resets lowered zeros unstarted beyond")
+
+
+def may_facts(lines):
+    """What may answers, about which lags and between which lines."""
+    facts = MayFacts(*(set() for _ in MayFacts._fields))
+    told = [*may_lines(lines), MayLine(None, (), "", None)]
+    for may, between, again in zip(told, told[1:], told[2:]):
+        if may.asked:
+            number, (desk,) = may_number(may.answer), may.numbers
+            lag_facts(facts, may.asked, desk, number)
+            if between.verb == "reset" and between.numbers[0] == desk:
+                facts.resets.add((number, between.numbers[1], int(between.answer[:3])))
+            if again.asked and again.numbers == may.numbers:
+                done = f"{between.verb} {int(between.answer[:3])}"
+                facts.lowered.add((number, done, may_number(again.answer)))
+    return facts
+
+
+def may_number(answer):
+    """The number that a reset would be answered, 0 for a yes."""
+    return 0 if answer == "000 yes" else int(answer[4:])
+
+
+def may_lines(lines):
+    """The lines as a program answers them; one of no good shape has its word for a verb."""
+    program = listing.Program()
+    for text in lines:
+        verb, numbers = listing.parse(text) or (text.split(b" ")[0].decode("latin-1"), ())
+        there = verb == "may" and program.run and numbers and numbers[0] < program.run.D
+        asked = may_asked(program.run, program.book, *numbers) if there else None
+        yield MayLine(verb, numbers, program.answer(text), asked)
+
+
+def may_asked(run, given, desk):
+    """The lags, also of seats that have started; the own phase, whether places and slots are free; the seam's."""
+    started = [run.behind(desk, event.pairs) for event in run.last if event]
+    return MayAsked(book.Setup(*run.setup), run.furthest(desk), started, given[book.own_entry(desk)],
+                    (None in run.mail, None in run.shelf), list(lags_beyond(given, desk)))
+
+
+def lag_facts(facts, asked, desk, number):
+    """What is to be seen of the lags that may has answered about."""
+    D, P, _, M, A, *_ = asked.setup
+    kinds = list(zip(("seat", "mail", "slot"), asked.lags, (M, 2 * M, A)))
+    facts.at.add((*(lag == bound for _, lag, bound in kinds), number))
+    if number == 0:
+        facts.below.update(kind for kind, lag, bound in kinds if 0 < lag == bound - 1)
+        facts.zeros.update(kind for (kind, _, bound), there in zip(kinds, (D < 8, *asked.free))
+                           if there and asked.own == bound)
+    if number == 11 and M not in asked.started:
+        facts.unstarted.add(D)
+    if P == 256:
+        facts.beyond.update((desk, *lag, number) for lag in asked.beyond)
+
+
+def check_may(lines):
+    """Each answer by the lags it goes by, and one phase below; beside the reset, and as lags are lowered.
+
+    Zeros of a seat above D, of a free place and of a free slot would lag too far where the answer is yes.
+    """
+    facts = may_facts(lines)
+    wanted = {(*full, number) for full, number in MAY_AT.items()}
+    require(facts.at == wanted, f"may by the lags {facts.at ^ wanted}")
+    kinds = {"seat", "mail", "slot"}
+    for name, wanted in (("below", kinds), ("zeros", kinds), ("unstarted", {2, 8}),
+                         ("resets", MAY_RESETS), ("lowered", MAY_LOWERED)):
+        require(wanted <= getattr(facts, name), f"may, {name}: {wanted - getattr(facts, name)}")
+    wanted = {(desk, *lag) for desk in (0, 1) for lag in SEAM_LAGS}
+    require(wanted <= facts.beyond, f"may where beyond the seam lag {wanted - facts.beyond}")
+
+
+def check_may_lines(lines, printed):
+    """Every desk of every D, those that are not there, before any start, and shapes that are none."""
+    told, D = set(), 0
+    for text, answer in zip(lines, printed):
+        verb, numbers = listing.parse(text) or (None, ())
+        if verb == "start" and answer == b"000":
+            D = numbers[0]
+        if text.startswith(b"may"):
+            told.add((D, text, answer[:3]))
+    wanted = {(D, b"may %03d" % desk, b"000" if desk < D else b"003")
+              for D in range(2, 9) for desk in (*range(10), 255, 256, 255 + D, 999)}
+    wanted |= {(0, b"may %03d" % desk, b"002") for desk in (0, 1, 255, 256, 999)}
+    wanted |= {(0, text, b"017") for text in (b"may", b"may 0", b"may 000 000", b"may  000", b"mays 000")}
+    require(wanted <= told, f"may in the lines {wanted - told}")
 
 
 def turned(run):

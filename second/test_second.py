@@ -3,9 +3,11 @@
 The example and the cases of docs/RULES.md; that every clock goes by the limit of
 its column's desk; that the reach in phases is the reach by resets; that a kept
 event without a slot is refused whole and no call answers NoEvent; how much mail
-tells; pictures by hand, by sets of events and by ordinary vectors; that the fixed
-seeds and the stored listing find each error the desks would make; the full byte
-ring and the one of 255 at their ends; and that the runners report.
+tells; pictures by hand, by sets of events and by ordinary vectors; summaries by
+hand, that the office leaves them true and that may answers from them as a reset
+would; that the fixed seeds and the stored listing find each error the desks would
+make; the full byte ring and the one of 255 at their ends; and that the runners
+report.
 """
 
 import collections
@@ -673,7 +675,7 @@ class Keeping(unittest.TestCase):
 
     def test_no_call_answers_no_event(self):
         asked = {asked.number for batch in raw.batches(raw.DEFAULT_CALLS, 7) for asked in batch}
-        self.assertEqual(asked, set(range(19)) - {book.NO_EVENT, book.BAD_LINE})
+        self.assertEqual(asked, {*range(19), book.BAD_SUMMARY} - {book.NO_EVENT, book.BAD_LINE})
         printed = {line[1][:3] for lines in (stored_lines(), *map(told, range(1, 101))) for line in lines}
         self.assertNotIn(b"007", printed)
 
@@ -957,6 +959,369 @@ def pictures_in(lines):
             yield len(slots) - len(one.limits), one.answer, one.come_round
 
 
+# Summaries by hand, the office and who may reset.
+
+# Under X desk 0 has turned to 1, desk 1 knows it at 4 and desk 2 has not started; two mails wait, one stamp is kept.
+UNEVEN = (
+    b"BK" + bytes((3, 5, 0, 2, 4, 2, 2)) + bytes(7)
+    + b"SE\1\4" + bytes((1, 2, 4, 0, 0, 1)) + bytes(10)
+    + b"SE\1\4" + bytes((4, 3, 0, 1, 0, 0)) + bytes(10)
+    + b"SE\0\4" + bytes(16)
+    + (b"SE" + bytes(18)) * 5
+    + b"MA" + bytes(18)
+    + b"MA\1\2" + bytes((0, 1, 1, 0, 4, 0)) + bytes(10)
+    + (b"MA" + bytes(18)) * 29
+    + b"MA\3\1" + bytes((2, 0, 0, 0, 3, 3)) + bytes(10)
+    + (b"SH" + bytes(18)) * 5
+    + b"SH\2\0" + bytes((3, 3, 2, 0, 0, 0)) + bytes(10)
+    + (b"SH" + bytes(18)) * 26
+)
+UNEVEN_SUMMARY = bytes.fromhex("5355 020403 010403 000200") + bytes(15)
+
+# On the full ring desk 0 has come to 3 and desk 1 to 255; a seat, a mail and a stamp lag beyond the seam.
+ROUND = (
+    b"BK" + bytes((2, 0, 0, 127, 255, 127, 127)) + bytes(7)
+    + b"SE\1\x14" + bytes((3, 0, 200, 0)) + bytes(12)
+    + b"SE\1\x15" + bytes((132, 0, 255, 0)) + bytes(12)
+    + (b"SE" + bytes(18)) * 6
+    + b"MA\2\1" + bytes((5, 0, 1, 0)) + bytes(12)
+    + (b"MA" + bytes(18)) * 31
+    + (b"SH" + bytes(18)) * 31
+    + b"SH\1\0" + bytes((4, 0, 0, 0)) + bytes(12)
+)
+ROUND_SUMMARY = bytes.fromhex("5355 7FFEFF 37FEFF") + bytes(18)
+
+NO_LAGS = bytes.fromhex("5355") + bytes(24)
+
+
+def counted_lags(given):
+    """The summary of a sound book, by the offsets of its bytes and by remainders."""
+    D, P = given[2], given[3] or 256
+    own = [given[20 + 22 * desk] for desk in range(D)]
+    mail = [at for at in range(176, 816, 20) if given[at + 2] > 0]
+    shelf = [at for at in range(816, 1456, 20) if given[at + 2] > 0]
+    summary = bytearray(NO_LAGS)
+    for desk in range(D):
+        seats = [16 + 20 * other for other in range(D) if other != desk]
+        for kind, records in enumerate((seats, mail, shelf)):
+            lags = [(own[desk] - given[at + 4 + 2 * desk]) % P for at in records]
+            summary[2 + 3 * desk + kind] = max([0, *lags])
+    return bytes(summary)
+
+
+def some_sound_books(seed, count):
+    rng = random.Random(seed)
+    yield from raw.books_of_every_kind(rng)
+    for _ in range(count):
+        yield raw.sound_book_of(rng, raw.either_setup(rng))
+
+
+class Summaries(unittest.TestCase):
+    def test_by_hand(self):
+        for given, summary in ((UNEVEN, UNEVEN_SUMMARY), (ROUND, ROUND_SUMMARY)):
+            self.assertEqual((len(given), len(summary), book.sound(given)), (1456, 26, True))
+            self.assertEqual(book.summary_of(given), summary)
+
+    def test_of_a_fresh_book(self):
+        for setup in (X, Y, FULL, UNLIKE):
+            self.assertEqual(book.summary_of(fresh(setup)), NO_LAGS)
+
+    def test_each_kind_of_row_has_its_own_number(self):
+        """Of the entry for one desk, wherever the row stands and whosever it is."""
+        rng = random.Random(6)
+        for D, desk, lag in itertools.product((2, 3, 8), (0, 1), (1, 2)):
+            setup, own = X._replace(D=D, limits=[4] * D), [rng.randrange(5) for _ in range(D)]
+            for at, kind in enumerate(raw.ROWS):
+                given = raw.uneven_book(rng, setup, own, desk, kind, (own[desk] - lag) % 5)
+                lags = seeds.placed(bytes(24), 3 * desk + at, lag)
+                self.assertEqual(book.summary_of(given), b"SU" + bytes(lags))
+
+    def test_zeros_that_are_no_row(self):
+        """The own phase is 2: zeros of seats above D, free places and slots do not lag, those of other seats do."""
+        given = raw.level_book(X, [2, 0, 0])
+        self.assertEqual(book.summary_of(given), NO_LAGS)
+        for other in (1, 2):
+            at = book.seat_at(other)
+            uneven = given[:at] + b"SE\0\4" + bytes(16) + given[at + 20:]
+            self.assertTrue(book.sound(uneven))
+            self.assertEqual(book.summary_of(uneven), b"SU\2" + bytes(23))
+
+    def test_counted_otherwise(self):
+        seen = set()
+        for given in some_sound_books(12, 300):
+            summary = book.summary_of(given)
+            self.assertEqual(summary, counted_lags(given))
+            seen |= {(at % 3, lag) for at, lag in enumerate(summary[2:])}
+        self.assertLessEqual({(0, 127), (1, 254), (2, 255), (0, 0), (1, 0), (2, 0)}, seen)
+
+    def test_runs_have_the_same(self):
+        """By true phases, whatever has come round; after every line of a listing."""
+        seen = set()
+        for seed in range(1, 6):
+            program = listing.Program()
+            for one in told(seed):
+                program.answer(one.text)
+                if program.run:
+                    self.assertEqual(program.summary, counted_lags(program.book))
+                    self.assertEqual(program.summary, program.run.summary())
+                    seen.add(program.summary)
+        self.assertGreater(len(seen), 100)
+
+
+# Changes of the uneven book by hand, and its summary after each.
+UNEVEN_CHANGES = (
+    (("discard", 31), "020103 010403 000100"), (("discard", 1), "020403 010003 000200"),
+    (("drop", 5), "020400 010400 000200"), (("local", 1, 0), "020403 010403 000200"),
+    (("local", 0, 1), "020403 010403 000200"), (("receive", 1, 1, 0), "010403 010003 000200"),
+    (("receive", 1, 1, 1), "010403 010003 000200"), (("receive", 0, 31, 0), "020103 000403 000100"),
+    (("reset", 2, 0), "020403 010403 010301"), (("reset", 2, 1), "020403 010403 010301"),
+    (("send", 2, 1, 0), "020403 010403 000200"), (("start", *X), "000000 000000 000000"),
+)
+
+# One after another from the first on, which begins with the uneven book: rows go, and others come in their place.
+UNEVEN_RUN = (
+    (("discard", 31), "020103 010403 000100"), (("discard", 1), "020003 010003 000000"),
+    (("drop", 5), "020000 010000 000000"), (("send", 1, 2, 0), "020200 010000 000000"),
+    (("local", 1, 1), "020202 010000 000000"), (("receive", 2, 0, 0), "020002 010000 000000"),
+    (("send", 0, 1, 0), "020002 010100 000000"), (("reset", 1, 0), "020002 020201 000000"),
+    (("receive", 1, 0, 0), "010002 020001 000000"), (("reset", 0, 1), "020003 020002 000000"),
+    (("send", 0, 2, 0), "020003 020202 000000"), (("receive", 2, 0, 0), "010003 020002 000000"),
+    (("drop", 0), "010000 020002 000000"), (("drop", 1), "010000 020000 000000"),
+)
+
+
+def told_by_hand(lags):
+    return b"SU" + bytes.fromhex(lags) + bytes(15)
+
+
+def by_the_office(name, given, summary, *numbers):
+    return getattr(book, f"office_{name}")(given, summary, *numbers)
+
+
+class Office(unittest.TestCase):
+    def test_by_hand(self):
+        """Whatever the summary was."""
+        for ((verb, *numbers), lags), summary in itertools.product(
+                UNEVEN_CHANGES, (UNEVEN_SUMMARY, bytes(26), b"\xff" * 26, bytes(range(26)))):
+            number, values, after, told = by_the_office(verb, UNEVEN, summary, *numbers)
+            self.assertEqual((number, values, after), getattr(book, verb)(UNEVEN, *numbers))
+            self.assertEqual((number, told), (0, told_by_hand(lags)), (verb, *numbers))
+
+    def test_a_run_by_hand(self):
+        given, summary = UNEVEN, b"garbage of twenty-six byte"
+        for (verb, *numbers), lags in UNEVEN_RUN:
+            number, _, given, summary = by_the_office(verb, given, summary, *numbers)
+            self.assertEqual((number, summary), (0, told_by_hand(lags)), (verb, *numbers))
+
+    def test_start(self):
+        """The book's length, the setup, the summary's length; then all 26 bytes are written."""
+        good, bad = bytes(1456), X._replace(P=4)
+        for length in (0, 25, 26, 27, 52):
+            summary = b"\xee" * length
+            self.assertEqual(book.office_start(good[1:], summary, *bad), (1, (), good[1:], summary))
+            self.assertEqual(book.office_start(good, summary, *bad), (2, (), good, summary))
+            answer = (0, (), fresh(X), NO_LAGS) if length == 26 else (21, (), good, summary)
+            self.assertEqual(book.office_start(good, summary, *X), answer)
+
+    def test_book_and_answer_are_those_of_the_book_alone(self):
+        """And the summary is true where it is done; where it is not, it is what it was."""
+        rng, seen = random.Random(13), set()
+        for given, name in itertools.product(some_sound_books(13, 30), listing.CHANGES):
+            numbers, summary = raw.some_change(rng, name, given), rng.choice(raw.SUMMARIES)(rng, given)
+            number, values, after = getattr(book, name)(given, *numbers)
+            told = counted_lags(after) if number == book.DONE else summary
+            self.assertEqual(by_the_office(name, given, summary, *numbers), (number, values, after, told))
+            seen.add((name, number))
+        self.assertLessEqual({(name, 0) for name in listing.CHANGES}, seen)
+        self.assertLessEqual({("reset", number) for number in (10, 11, 12, 13)}, seen)
+
+    def test_the_summary_is_asked_last_and_for_its_length_alone(self):
+        """Each reason of the book comes first; what is refused leaves every byte."""
+        rng = random.Random(14)
+        for name, reasons in raw.REASONS.items():
+            for number in (*reasons, book.DONE):
+                given, numbers = raw.answered_change(rng, name, number, raw.either_setup)
+                for length in (0, 1, 2, 25, 27, 52, 282):
+                    summary = rng.randbytes(length)
+                    self.assertEqual(by_the_office(name, given, summary, *numbers),
+                                     (number or book.BAD_SUMMARY, (), given, summary))
+                summary = rng.randbytes(26)
+                answer = by_the_office(name, given, summary, *numbers)
+                self.assertEqual(answer[0], number)
+                if number != book.DONE:
+                    self.assertEqual(answer, (number, (), given, summary))
+
+    def test_garbage_is_mended_by_the_next_accepted_change(self):
+        """A refused one leaves it."""
+        given, garbage = calls(fresh(), ("reset", 0, 0))[2], bytes(range(100, 126))
+        for verb, *numbers in (("reset", 3, 0), ("drop", 0), ("discard", 9), ("send", 1, 1, 0)):
+            self.assertEqual(by_the_office(verb, given, garbage, *numbers)[2:], (given, garbage))
+        for (verb, *numbers), lags in ((("local", 1, 0), b"\1\0\0"), (("send", 1, 2, 1), b"\1\1\1")):
+            self.assertEqual(by_the_office(verb, given, garbage, *numbers)[3], b"SU" + lags + bytes(21))
+
+    def test_a_false_summary_is_mended(self):
+        """Also where the change itself lowers and raises nothing."""
+        rng = random.Random(15)
+        for given in some_sound_books(15, 20):
+            desk = next((desk for desk in range(given[2]) if book.local(given, desk, 0)[0] == 0), None)
+            if desk is not None:
+                told = {book.office_local(given, made(rng, given), desk, 0)[3] for made in raw.SUMMARIES}
+                self.assertEqual(told, {book.summary_of(given)})
+
+
+# Under X these do not read: by their length, their mark or a lag.
+NO_SUMMARIES = (b"", b"SU", NO_LAGS[:25], NO_LAGS + b"\0", bytes(26), b"SV" + bytes(24), b"TU" + bytes(24),
+                b"SU\3" + bytes(23), b"SU" + bytes(23) + b"\5", b"SU" + b"\xff" * 24)
+
+
+def by_lags(setup, seats, mail, shelf):
+    """What a reset is answered by three lags that are permitted."""
+    return next((number for number, lag, bound in
+                 ((11, seats, setup.M), (12, mail, 2 * setup.M), (13, shelf, setup.A)) if lag == bound), 0)
+
+
+class May(unittest.TestCase):
+    def test_by_hand(self):
+        self.assertEqual(listing.answers(stored.MAY), stored.MAY_ANSWERS)
+        for given, summary, answers in ((UNEVEN, UNEVEN_SUMMARY, (11, 12, 0)), (ROUND, ROUND_SUMMARY, (11, 12))):
+            for desk, number in enumerate(answers):
+                self.assertEqual(book.may(book.setup_of(given), summary, desk), (0, (number,)))
+                self.assertEqual(book.reset(given, desk, 0)[0], number)
+
+    def test_refusals_in_their_order(self):
+        for setup, desk, summary in itertools.product(
+                (X, X._replace(P=4), X._replace(limits=(4, 4)), X._replace(D=0)),
+                (0, 2, 3, 7, 8, 255, 256, 2**32, 2**64 - 1, 2**64), (NO_LAGS, *NO_SUMMARIES)):
+            number = 2 if setup != X else 3 if desk > 2 else 21 if summary != NO_LAGS else 0
+            values = (0,) if number == 0 else ()
+            self.assertEqual(book.may(setup, summary, desk), (number, values), (setup, desk, summary))
+
+    def test_every_byte_of_every_lag(self):
+        """All eight desks' are asked, and what is told is told by the three of the one that is asked about."""
+        for setup in (X, FULL, ROOMY._replace(D=8, limits=(9,) * 8)):
+            for at, lag in itertools.product(range(24), range(256)):
+                desk = at // 3 if at // 3 < setup.D else 0
+                summary = b"SU" + bytes(seeds.placed(bytes(24), at, lag))
+                bound = (setup.M, 2 * setup.M, setup.A)[at % 3]
+                told = 11 + at % 3 if lag == bound and desk == at // 3 else 0
+                answer = (0, (told,)) if lag <= bound else (21, ())
+                self.assertEqual(book.may(setup, summary, desk), answer, (at, lag))
+                other = (desk + 1) % setup.D
+                self.assertEqual(book.may(setup, summary, other)[1], (0,) if lag <= bound else ())
+
+    def test_lengths_and_marks(self):
+        long = UNEVEN_SUMMARY + bytes(300)
+        for length in (*range(60), 255, 256, 282):
+            self.assertEqual(book.may(X, long[:length], 0)[0], 0 if length == 26 else 21)
+        for at, byte in itertools.product((0, 1), range(256)):
+            marked = raw.with_byte(UNEVEN_SUMMARY, at, byte)
+            self.assertEqual(book.may(X, marked, 2)[0], 0 if byte == b"SU"[at] else 21)
+
+    def test_the_first_of_three_decides(self):
+        for setup in (X, FULL, Y, ROOMY):
+            bounds = setup.M, 2 * setup.M, setup.A
+            for lags in itertools.product(*((0, bound - 1, bound) for bound in bounds)):
+                summary = b"SU" + bytes((*lags, 0, 0, 0)) + bytes(18)
+                self.assertEqual(book.may(setup, summary, 0), (0, (by_lags(setup, *lags),)))
+                self.assertEqual(book.may(setup, summary, 1), (0, (0,)))
+
+    def test_it_is_what_a_reset_would_be_answered(self):
+        """On any sound book; kept, the same but for a full shelf, which comes first."""
+        seen = set()
+        for given in some_sound_books(16, 200):
+            setup, summary = book.setup_of(given), book.summary_of(given)
+            for desk in range(setup.D):
+                (number,) = book.may(setup, summary, desk)[1]
+                full = all(book.slot_used(given, slot) for slot in range(32))
+                self.assertEqual(book.reset(given, desk, 0)[0], number)
+                self.assertEqual(book.reset(given, desk, 1)[0], 10 if full else number)
+                seen.add((number, full, setup.P == 256))
+        self.assertEqual(seen, set(itertools.product((0, 11, 12, 13), (False, True), (False, True))))
+
+    def test_it_is_what_a_reset_of_a_run_would_be_answered(self):
+        """After every line, for every desk, from the summary that the program has held all along."""
+        seen = set()
+        for seed in range(6, 12):
+            program = listing.Program()
+            for one in told(seed):
+                program.answer(one.text)
+                for desk in range(program.run.D if program.run else 0):
+                    number, (told_number,) = book.may(program.run.setup, program.summary, desk)
+                    self.assertEqual((number, told_number), (0, book.reset(program.book, desk, 0)[0]))
+                    self.assertEqual(program.run.may(desk), (0, (told_number or True,)))
+                    seen.add(told_number)
+        self.assertEqual(seen, {0, 11, 12, 13})
+
+    def test_it_goes_by_what_it_is_told(self):
+        """A summary that is false of every book, or another setup than the book's."""
+        self.assertEqual(book.may(X, b"SU\2" + bytes(23), 0), (0, (11,)))
+        self.assertEqual(book.may(X._replace(P=7, M=3), b"SU\2" + bytes(23), 0), (0, (0,)))
+        self.assertEqual(book.may(X._replace(M=1), b"SU\2" + bytes(23), 0), (21, ()))
+
+    def test_the_program_from_zeros_on(self):
+        """There is no setup before an accepted start, and refused ones leave the summary."""
+        program = listing.Program()
+        for text in (b"may 000", b"may 255", b"may 999", b"start 002 004 004 004 002 002 001 001", b"may 000",
+                     b"start 002 005 004 002 002 001 001", b"reset 000 000", b"drop 000", b"may 008"):
+            answer = program.answer(text)
+            self.assertEqual(answer == "002", text.startswith(b"may") or b"start 002 004" in text, text)
+            self.assertEqual((program.book, program.summary), (bytes(1456), bytes(26)))
+        program.answer(b"start 002 005 004 004 002 002 001 001")
+        self.assertEqual((program.answer(b"may 000"), program.summary), ("000 yes", NO_LAGS))
+
+    def test_shapes(self):
+        for bad in stored.MAY_SHAPES:
+            for given in (b"", b"start 002 005 004 004 002 002 001 001\n"):
+                self.assertEqual(listing.answers(given + bad).split(b"\n")[-2], b"017", bad)
+
+    def test_seeds_ask_it_everywhere(self):
+        """Each answer, beside the reset it speaks of, where lags are lowered, of no desk and before any start."""
+        facts = [stored.may_facts([one.text for one in told(seed)]) for seed in range(1, 31)]
+        seen = stored.MayFacts(*(set().union(*parts) for parts in zip(*facts)))
+        self.assertEqual(seen.at, {(*full, number) for full, number in stored.MAY_AT.items()})
+        self.assertEqual((seen.below, seen.zeros), ({"seat", "mail", "slot"}, {"seat", "mail", "slot"}))
+        self.assertLessEqual({(number, keep, number) for number in (0, 11, 12, 13) for keep in (0, 1)}, seen.resets)
+        self.assertIn((0, 1, 10), seen.resets)
+        self.assertLessEqual({(13, "drop 0", 0), (12, "discard 0", 0), (11, "receive 0", 0)}, seen.lowered)
+        self.assertLessEqual({2, 3, 8}, seen.unstarted)
+        answers = {(one.answer, bool(one.limits)) for seed in range(1, 101) for one in told(seed)
+                   if listing.parse(one.text) and one.text.startswith(b"may")}
+        self.assertEqual(answers, {(b"002", False), *((answer, True) for answer in
+                                                      (b"000 yes", b"000 011", b"000 012", b"000 013", b"003"))})
+
+    def test_the_check_misses_each(self):
+        """Whatever is lacking of what may should answer, and of the lines that ask it."""
+        facts = stored.may_facts([text for section in MAY_SECTIONS for text, _ in section_of(section)])
+        with mock.patch.object(stored, "may_facts", lambda _: facts):
+            stored.check_may(())
+        for name, wanted in (("at", {(*full, number) for full, number in stored.MAY_AT.items()}),
+                             ("below", {"seat", "mail", "slot"}), ("zeros", {"seat", "mail", "slot"}),
+                             ("unstarted", {2, 8}), ("resets", stored.MAY_RESETS), ("lowered", stored.MAY_LOWERED),
+                             ("beyond", {(desk, *lag) for desk in (0, 1) for lag in stored.SEAM_LAGS})):
+            for fact in wanted:
+                lacking = facts._replace(**{name: getattr(facts, name) - {fact}})
+                with mock.patch.object(stored, "may_facts", lambda _: lacking), \
+                        self.assertRaises(AssertionError, msg=(name, fact)):
+                    stored.check_may(())
+
+    def test_the_check_misses_lines(self):
+        lines = [one for one in stored_lines() if one[0].startswith((b"may", b"start"))]
+        stored.check_may_lines(*zip(*lines))
+        for text in (b"may 000", b"may 007", b"may 255", b"may 256", b"may 999", b"may", b"may 0",
+                     b"may 000 000", b"may  000", b"mays 000"):
+            with self.assertRaises(AssertionError, msg=text):
+                stored.check_may_lines(*zip(*(one for one in lines if one[0] != text)))
+
+
+MAY_SECTIONS = (stored.may_by_hand, *stored.MAY_SECTIONS, *stored.LONG_MAY_SECTIONS, stored.may_beyond_the_seam)
+
+
+def section_of(section):
+    """The stored lines and answers of a section."""
+    begins = list(stored.written().begins)
+    return stored_between(section, begins[begins.index(section) + 1])
+
+
 # The reach by the resets themselves, against the reach in phases.
 
 def resets_about(run, e):
@@ -1083,7 +1448,8 @@ TRUE = {name: getattr(book, name) for name in
          "used_place_sound", "reach", "compare", "label_compare", "difference_on_book",
          "difference_off_book", "permitted", "limited", "start", "fresh_head", "sound",
          "read_both", "read_stamp", "picture", "picture_number", "chosen_number", "at_odds",
-         "knows_more", "lag_behind", "next_phase", "phases_told", "phases_byte")}
+         "knows_more", "lag_behind", "next_phase", "phases_told", "phases_byte", "summary_of",
+         "through_office", "may", "summary_reads", "told_of_lags", "lags_told")}
 
 
 def lag_without_adding_P(own, phase, P):
@@ -1451,7 +1817,11 @@ def with_limits(name, limits, what):
     def read_both(setup, *labels):
         D, P, listed, *lags = setup
         return TRUE["read_both"]((D, P, limits(D, listed), *lags), *labels)
-    return named(name, {"start": start, "read_both": read_both}[name], what)
+
+    def may(setup, *asked):
+        D, P, listed, *lags = setup
+        return TRUE["may"]((D, P, limits(D, listed), *lags), *asked)
+    return named(name, {"start": start, "read_both": read_both, "may": may}[name], what)
 
 
 def limits_modulo(name, size):
@@ -1545,7 +1915,11 @@ def with_ring(name, phases, what):
     def read_both(setup, *labels):
         D, P, *rest = setup
         return TRUE["read_both"]((D, phases(P), *rest), *labels)
-    return named(name, {"start": start, "read_both": read_both}[name], what)
+
+    def may(setup, *asked):
+        D, P, *rest = setup
+        return TRUE["may"]((D, phases(P), *rest), *asked)
+    return named(name, {"start": start, "read_both": read_both, "may": may}[name], what)
 
 
 def ring_modulo(name, size):
@@ -1812,6 +2186,336 @@ def a_count_of_one_byte(given, *slots):
     return TRUE["picture"](given, *slots[:len(slots) % 256])
 
 
+# Summaries, the office and may
+
+def rows_of_seats(given, desks):
+    return [book.row_at(given, book.seat_at(desk)) for desk in desks]
+
+
+def seats_above_D_count(given, setup, desk):
+    return rows_of_seats(given, [other for other in range(8) if other != desk])
+
+
+def seats_not_started_do_not_count(given, setup, desk):
+    return rows_of_seats(given, [other for other in range(setup.D)
+                                 if other != desk and given[book.seat_at(other) + 2]])
+
+
+def the_next_seat_alone_counts(given, setup, desk):
+    return rows_of_seats(given, [(desk + 1) % setup.D])
+
+
+def the_first_desks_seat_does_not_count(given, setup, desk):
+    return rows_of_seats(given, [other for other in range(1, setup.D) if other != desk])
+
+
+def free_places_count(given):
+    return [book.row_at(given, book.place_at(place)) for place in range(32)]
+
+
+def free_slots_count(given):
+    return [book.row_at(given, book.slot_at(slot)) for slot in range(32)]
+
+
+def the_last_place_does_not_count(given):
+    return [book.row_at(given, book.place_at(place)) for place in range(31) if book.place_used(given, place)]
+
+
+def the_last_slot_does_not_count(given):
+    return [book.row_at(given, book.slot_at(slot)) for slot in range(31) if book.slot_used(given, slot)]
+
+
+def lags_in(setup, own, desk, rows):
+    return [TRUE["lag_behind"](own, row[2 * desk], setup.P) for row in rows]
+
+
+def the_smallest_lag(setup, own, desk, rows):
+    return min(lags_in(setup, own, desk, rows), default=0)
+
+
+def the_last_rows_lag(setup, own, desk, rows):
+    return (lags_in(setup, own, desk, rows) or [0])[-1]
+
+
+def the_lag_of_the_smallest_byte(setup, own, desk, rows):
+    """As if no phase had come round."""
+    return TRUE["lag_behind"](own, min((row[2 * desk] for row in rows), default=own), setup.P)
+
+
+def the_largest_clock(setup, own, desk, rows):
+    return max((row[2 * desk + 1] for row in rows), default=0)
+
+
+def office_leaving(what, summary_left):
+    """An error: an accepted change leaves another summary, made of the true one."""
+    def office(call, given, summary, numbers):
+        number, values, after, told = TRUE["through_office"](call, given, summary, numbers)
+        if number == book.DONE:
+            told = summary_left(call, given, summary, numbers, told)
+        return number, values, after, told
+    return named("through_office", office, what)
+
+
+def untold_of(verb):
+    """An error: the office leaves the summary as it was at one kind of change."""
+    def left(call, given, summary, numbers, told):
+        return summary if call is getattr(book, verb) else told
+    return office_leaving(f"untold of {verb}", left)
+
+
+def of_the_book_before(call, given, summary, numbers, told):
+    return TRUE["summary_of"](given) if book.sound(given) else NO_LAGS
+
+
+def never_lower(call, given, summary, numbers, told):
+    return bytes(map(max, summary, told))
+
+
+def never_higher(call, given, summary, numbers, told):
+    return told[:2] + bytes(map(min, summary[2:], told[2:]))
+
+
+def one_desk_alone(call, given, summary, numbers, told):
+    """That of the event; start, drop and discard tell of all."""
+    if call.__name__ not in listing.EVENTS:
+        return told
+    at = 2 + 3 * numbers[0]
+    return told[:2] + summary[2:at] + told[at:at + 3] + summary[at + 3:]
+
+
+def the_mark_is_left(call, given, summary, numbers, told):
+    return summary[:2] + told[2:]
+
+
+def desks_above_D_are_left(call, given, summary, numbers, told):
+    D = numbers[0] if call is book.start else given[2]
+    return told[:2 + 3 * D] + summary[2 + 3 * D:]
+
+
+def eights(call, given, summary, numbers, told):
+    """All eight numbers of seats first, then those of mail, then those of the shelf."""
+    return told[:2] + told[2::3] + told[3::3] + told[4::3]
+
+
+# By what the three numbers would say to may.
+
+def seats_alone_tell(setup, seats, mail, shelf):
+    return TRUE["told_of_lags"](setup, seats, 0, 0)
+
+
+def mail_by_M(setup, seats, mail, shelf):
+    return TRUE["told_of_lags"](setup, seats, 2 * setup.M if mail == setup.M else 0, shelf)
+
+
+def mail_does_not_tell(setup, seats, mail, shelf):
+    return TRUE["told_of_lags"](setup, seats, 0, shelf)
+
+
+def the_shelf_tells_first(setup, seats, mail, shelf):
+    return TRUE["told_of_lags"](setup, 0, 0, shelf) or TRUE["told_of_lags"](setup, seats, mail, 0)
+
+
+def mail_tells_first(setup, seats, mail, shelf):
+    return TRUE["told_of_lags"](setup, 0, mail, 0) or TRUE["told_of_lags"](setup, seats, 0, shelf)
+
+
+def seats_a_phase_early(setup, seats, mail, shelf):
+    return TRUE["told_of_lags"](setup, seats + 1, mail, shelf) or TRUE["told_of_lags"](setup, seats, mail, shelf)
+
+
+def mail_a_phase_early(setup, seats, mail, shelf):
+    return TRUE["told_of_lags"](setup, seats, mail + 1, shelf) or TRUE["told_of_lags"](setup, seats, mail, shelf)
+
+
+def the_shelf_a_phase_early(setup, seats, mail, shelf):
+    return TRUE["told_of_lags"](setup, seats, mail, shelf + 1) or TRUE["told_of_lags"](setup, seats, mail, shelf)
+
+
+def always_yes(setup, seats, mail, shelf):
+    return book.DONE
+
+
+def desk_0_is_told(summary, desk):
+    return TRUE["lags_told"](summary, 0)
+
+
+def three_eights_are_told(summary, desk):
+    """As if all eight numbers of seats came first."""
+    return summary[2 + desk::8][:3]
+
+
+def desks_modulo(size):
+    """An error: a desk is what is left of its number in so many values."""
+    def may(setup, summary, desk):
+        return TRUE["may"](setup, summary, desk % size)
+    return named("may", may, f"desks modulo {size}")
+
+
+def eight_desks_are_there(setup, summary, desk):
+    number, values = TRUE["may"](setup, summary, min(desk, setup[0] - 1))
+    return (number, values) if desk < max(8, setup[0]) else TRUE["may"](setup, summary, desk)
+
+
+def the_desk_is_asked_first(setup, summary, desk):
+    return (book.NO_DESK, ()) if desk >= setup[0] else TRUE["may"](setup, summary, desk)
+
+
+def no_setup_is_a_bad_book(setup, summary, desk):
+    number, values = TRUE["may"](setup, summary, desk)
+    return book.BAD_BOOK if number == book.BAD_SETUP else number, values
+
+
+def the_summary_is_asked_before(reason):
+    """An error: a summary that does not read comes before another reason."""
+    def may(setup, summary, desk):
+        number, values = TRUE["may"](setup, summary, desk)
+        reads = book.summary_reads(book.Setup(*setup), summary)
+        return (book.BAD_SUMMARY, ()) if number == reason and not reads else (number, values)
+    return named("may", may, f"the summary before {reason}")
+
+
+def reads_if(what, change):
+    """An error: a summary reads by what is made of it, or of the setup."""
+    def summary_reads(setup, summary):
+        return TRUE["summary_reads"](*change(setup, summary))
+    return named("summary_reads", summary_reads, what)
+
+
+def marked_at(*offsets):
+    """Bytes of the mark that are not asked."""
+    return lambda setup, summary: (setup, bytes(b"SU"[at] if at in offsets else byte
+                                                for at, byte in enumerate(summary)))
+
+
+def unasked_lags(kept):
+    """Lags that are not asked, by where they stand among the 24 and by D."""
+    return lambda setup, summary: (setup, summary[:2] + bytes(
+        lag if kept(at, setup.D) else 0 for at, lag in enumerate(summary[2:])))
+
+
+def bounds_as(**more):
+    """Bounds that differ from those of the setup by so much."""
+    return lambda setup, summary: (setup._replace(**{name: getattr(setup, name) + by
+                                                     for name, by in more.items()}), summary)
+
+
+def its_own_desk_alone(setup, summary, desk):
+    """Of the other desks no lag is asked."""
+    if not book.permitted(setup) or desk >= setup[0] or len(summary) != 26:
+        return TRUE["may"](setup, summary, desk)
+    at = 2 + 3 * desk
+    alone = summary[:2] + bytes(3 * desk) + summary[at:at + 3] + bytes(21 - 3 * desk)
+    return TRUE["may"](setup, alone, desk)
+
+
+def office_asking(what, asks):
+    """An error: of a summary of its length more is asked, or of another's less."""
+    def office(call, given, summary, numbers):
+        return asks(call, given, summary, numbers) or TRUE["through_office"](call, given, summary, numbers)
+    return named("through_office", office, what)
+
+
+def bad_summary(given, summary):
+    return book.BAD_SUMMARY, (), given, summary
+
+
+def the_summary_first(call, given, summary, numbers):
+    return bad_summary(given, summary) if len(summary) != 26 else None
+
+
+def a_summary_that_reads(call, given, summary, numbers):
+    """Of an accepted change it is asked whether the summary is one."""
+    done = call(given, *numbers)[0] == book.DONE
+    return bad_summary(given, summary) if done and summary[:2] != b"SU" else None
+
+
+def a_true_summary(call, given, summary, numbers):
+    """Whether it is that of the book; start writes it anew."""
+    done = call is not book.start and call(given, *numbers)[0] == book.DONE
+    return bad_summary(given, summary) if done and summary != TRUE["summary_of"](given) else None
+
+
+def longer_will_do(fits):
+    """A summary that is longer than 26 bytes is taken, by its length."""
+    def asks(call, given, summary, numbers):
+        if len(summary) <= 26 or not fits(len(summary)) or call(given, *numbers)[0] != book.DONE:
+            return None
+        number, values, after, told = TRUE["through_office"](call, given, summary[:26], numbers)
+        return number, values, after, told + summary[26:]
+    return asks
+
+
+def written_where_refused(call, given, summary, numbers):
+    number, values, after, told = TRUE["through_office"](call, given, summary, numbers)
+    if number != book.DONE and len(summary) == 26 and book.sound(given):
+        return number, values, after, TRUE["summary_of"](given)
+    return None
+
+
+def changed_where_refused(call, given, summary, numbers):
+    """The book is changed though the summary has another length."""
+    number, values, after = call(given, *numbers)
+    refused = number == book.DONE and len(summary) != 26
+    return (book.BAD_SUMMARY, (), after, summary) if refused else None
+
+
+def a_bad_book_by_the_summary(call, given, summary, numbers):
+    number = TRUE["through_office"](call, given, summary, numbers)[0]
+    return (book.BAD_BOOK, (), given, summary) if number == book.BAD_SUMMARY else None
+
+
+# What lines can show by asking may.
+SUMMARY_ERRORS = (
+    *(("other_seats", error) for error in (
+        seats_above_D_count, seats_not_started_do_not_count, the_next_seat_alone_counts,
+        the_first_desks_seat_does_not_count)),
+    ("mail_waiting", free_places_count), ("stamps_kept", free_slots_count),
+    *(("largest_lag", error) for error in (
+        the_smallest_lag, the_last_rows_lag, the_lag_of_the_smallest_byte, the_largest_clock)),
+    *map(untold_of, ("start", "receive", "reset", "drop", "discard")),
+    *(office_leaving(left.__name__, left) for left in (
+        of_the_book_before, never_lower, never_higher, one_desk_alone, eights)),
+    *(("told_of_lags", error) for error in (
+        seats_alone_tell, mail_by_M, mail_does_not_tell, the_shelf_tells_first, mail_tells_first,
+        seats_a_phase_early, mail_a_phase_early, the_shelf_a_phase_early, always_yes)),
+    ("lags_told", desk_0_is_told), ("lags_told", three_eights_are_told),
+    desks_modulo(256), ("may", eight_desks_are_there), ("may", the_desk_is_asked_first),
+    ("may", no_setup_is_a_bad_book),
+)
+
+# Those by which a summary is false of its book.
+FALSE_SUMMARIES = [(name, error) for name, error in SUMMARY_ERRORS
+                   if name in ("other_seats", "mail_waiting", "stamps_kept", "largest_lag", "through_office")]
+
+# These need summaries that no line has, setups and desks that none gives, or the last place and slot.
+RAW_SUMMARY_ERRORS = (
+    ("mail_waiting", the_last_place_does_not_count), ("stamps_kept", the_last_slot_does_not_count),
+    *map(untold_of, ("local", "send")),
+    *(office_leaving(left.__name__, left) for left in (the_mark_is_left, desks_above_D_are_left)),
+    *(desks_modulo(2**bits) for bits in (3, 16, 32, 63)),
+    the_summary_is_asked_before(book.BAD_SETUP), the_summary_is_asked_before(book.NO_DESK),
+    *(reads_if(f"mark unasked at {at}", marked_at(*at)) for at in ((0,), (1,), (0, 1))),
+    reads_if("a longer summary reads", lambda setup, summary: (setup, summary[:26])),
+    reads_if("a length of one byte", lambda setup, summary: (setup, summary[:len(summary) % 256])),
+    reads_if("desks above D are not asked", unasked_lags(lambda at, D: at < 3 * D)),
+    reads_if("desk 7 is not asked", unasked_lags(lambda at, D: at < 21)),
+    reads_if("desk 0 is not asked", unasked_lags(lambda at, D: at > 2)),
+    *(reads_if(f"{kind} are not asked", unasked_lags(lambda at, D, kind=kind: at % 3 != kind)) for kind in range(3)),
+    *(reads_if(f"bounds with {more}", bounds_as(**more)) for more in ({"M": 1}, {"M": -1}, {"A": 1}, {"A": -1})),
+    ("may", its_own_desk_alone),
+    *(office_asking(asks.__name__, asks) for asks in (
+        the_summary_first, a_summary_that_reads, a_true_summary, written_where_refused,
+        changed_where_refused, a_bad_book_by_the_summary)),
+    office_asking("a longer summary will do", longer_will_do(lambda length: True)),
+    office_asking("a length of one byte", longer_will_do(lambda length: length % 256 == 26)),
+    office_asking("a length of two bytes", longer_will_do(lambda length: length % 2**16 == 26)),
+    *(limits_modulo("may", 2**bits) for bits in (8, 16, 32, 63)),
+    *(list_of("may") for list_of in (a_longer_list, a_shorter_list, limits_counted_by_a_byte)),
+    *(ring_modulo("may", 2**bits) for bits in (8, 16, 32, 63)),
+    nought_taken_for_256("may"), any_nought_byte_is_256("may"), A_below(255),
+)
+
+
 # The reach from e to f, back and ahead.
 
 def no_reset_is_known(setup, e, f):
@@ -1960,6 +2664,14 @@ RAW_ERRORS = (
     *RAW_LIMIT_ERRORS,
 )
 
+# Those of the changes that the office makes, too.
+OFFICE_ERRORS = (
+    ("later", larger_byte_is_later), ("receive", place_stays_used), ("receive", refused_receipt_frees),
+    ("lag_number", only_seats_are_checked), ("merge", own_entry_is_merged), ("merge", own_phase_from_mail),
+    *KEEPING_ERRORS, *LEARNING_ERRORS, *map(full_by, OTHER_LIMITS), *map(started_with, OTHER_LIMITS[:4]),
+    *(limit_lost_by(verb, no_limit) for verb in listing.EVENTS),
+)
+
 
 # Errors of what is read off sets of events, and of the ordinary vectors.
 
@@ -2020,6 +2732,52 @@ def left_by_the_smallest(run, desk):
     return min(run.limits) - 1 - run.own(desk)[1]
 
 
+def furthest_among(rooms):
+    """An error: the lags are those of other rows."""
+    def furthest(run, desk):
+        own = run.own(desk)[0]
+        return [own - min((pairs[desk][0] for pairs in rows), default=own) for rows in rooms(run, desk)]
+    return line.Run, "furthest", named("furthest", furthest, rooms)[1]
+
+
+def rooms_of(run, desk):
+    return [[run.pairs(other) for other in range(run.D) if other != desk],
+            [mail[0].pairs for mail in run.mail if mail], [event.pairs for event in run.shelf if event]]
+
+
+def without_seats_not_started(run, desk):
+    return [[event.pairs for event in run.last if event], *rooms_of(run, desk)[1:]]
+
+
+def with_free_places(run, desk):
+    seats, mail, shelf = rooms_of(run, desk)
+    return seats, mail + [[(0, 0)] * run.D] * run.mail.count(None), shelf
+
+
+def with_free_slots(run, desk):
+    seats, mail, shelf = rooms_of(run, desk)
+    return seats, mail, shelf + [[(0, 0)] * run.D] * run.shelf.count(None)
+
+
+def mail_among_the_stamps(run, desk):
+    seats, mail, shelf = rooms_of(run, desk)
+    return seats, mail, mail + shelf
+
+
+def may_by_a_reset_that_is_kept(run, desk):
+    """A full shelf is told, too."""
+    number, values = TRUE_MAY(run, desk)
+    return (number, (10,)) if values and run.no_slot(1) else (number, values)
+
+
+TRUE_MAY = line.Run.may
+
+# The last one leaves the summary true.
+SET_SUMMARY_ERRORS = (
+    *map(furthest_among, (without_seats_not_started, with_free_places, with_free_slots, mail_among_the_stamps)),
+    (line.Run, "may", may_by_a_reset_that_is_kept),
+)
+
 SET_ERRORS = (
     (line, "permitted", permitted_below_256),
     (line.Run, "left", left_by_the_first), (line.Run, "left", left_by_the_smallest),
@@ -2042,45 +2800,108 @@ def is_found(part, name, error, lines):
         return any(program.answer(text).encode() != answer for text, answer, *_ in lines)
 
 
+def but_for_may(lines):
+    """The lines that do not ask who may reset: they answer the same without the others."""
+    return [one for one in lines if not one[0].startswith(b"may")]
+
+
+@functools.cache
+def told_but_for_may(seed):
+    return but_for_may(told(seed))
+
+
+@functools.cache
+def may_lines():
+    """The stored lines about who may reset, but for those about the largest rings."""
+    return [one for section in MAY_SECTIONS[:-1] for one in section_of(section)]
+
+
+def text_in(lines):
+    return b"\n".join(text for text, *_ in lines)
+
+
+def unheld(*names):
+    """A program that does not hold these parts of itself against the run."""
+    return mock.patch.multiple(listing.Program, **{name: lambda *_: None for name in names})
+
+
 class Errors(unittest.TestCase):
+    """But for those about summaries each is found by lines that do not ask may, and by no summary."""
+
     def test_stored_listing_finds_each(self):
+        lines = but_for_may(stored_lines())
         for part, name, error in (*in_book(ERRORS), *LINE_ERRORS):
-            self.assertTrue(is_found(part, name, error, stored_lines()), error.__name__)
+            self.assertTrue(is_found(part, name, error, lines), error.__name__)
 
     def test_seeds_find_each(self):
         for part, name, error in (*in_book(ERRORS), *LINE_ERRORS):
-            found = any(is_found(part, name, error, told(seed)) for seed in range(1, 101))
+            found = any(is_found(part, name, error, told_but_for_may(seed)) for seed in range(1, 101))
             self.assertTrue(found, error.__name__)
 
     def test_the_stored_rings_find_each(self):
+        lines = but_for_may(ring_lines())
         for name, error in RING_ERRORS:
-            self.assertTrue(is_found(book, name, error, ring_lines()), error.__name__)
+            self.assertTrue(is_found(book, name, error, lines), error.__name__)
 
     def test_seeds_find_each_of_the_rings(self):
         seeds_of_rings = sorted(range(1, 101), key=lambda seed: not (passes(seed, 256) or passes(seed, 255)))
         for name, error in RING_ERRORS:
-            found = any(is_found(book, name, error, told(seed)) for seed in seeds_of_rings)
+            found = any(is_found(book, name, error, told_but_for_may(seed)) for seed in seeds_of_rings)
             self.assertTrue(found, error.__name__)
 
     def test_the_two_routes_disagree_on_rings(self):
+        data = text_in(but_for_may(ring_lines()))
         for name, error in RING_ERRORS:
-            with mock.patch.object(book, name, error), \
+            with mock.patch.object(book, name, error), unheld("hold_summary"), \
                     self.assertRaises(listing.Disagree, msg=error.__name__):
-                listing.answers(b"\n".join(text for text, _ in ring_lines()))
+                listing.answers(data)
 
     def test_the_two_routes_disagree(self):
-        data = stored_listing()[0]
+        data = text_in(but_for_may(stored_lines()))
         # Off the book nothing is held where the run is out of reach, so a reach too wide stays unseen.
         off_book = [by_reach("difference_off_book", reach) for reach in REACHES
                     if reach is not all_reach_like_resets]
         for name, error in (*ERRORS, *off_book):
-            with mock.patch.object(book, name, error), \
+            with mock.patch.object(book, name, error), unheld("hold_summary"), \
                     self.assertRaises(listing.Disagree, msg=error.__name__):
                 listing.answers(data)
         for part, name, error in SET_ERRORS:
-            with mock.patch.object(part, name, error), \
+            with mock.patch.object(part, name, error), unheld("hold_summary"), \
                     self.assertRaises(listing.Disagree, msg=error.__name__):
                 listing.answers(data)
+
+    def test_may_finds_each_of_summaries(self):
+        """By the stored lines, and by the seeds."""
+        for name, error in SUMMARY_ERRORS:
+            self.assertTrue(is_found(book, name, error, may_lines()), error.__name__)
+            found = any(is_found(book, name, error, told(seed)) for seed in range(1, 101))
+            self.assertTrue(found, error.__name__)
+
+    def test_the_two_routes_disagree_on_summaries(self):
+        """By what may answers alone, and by the summaries alone where these are false."""
+        data = text_in(may_lines())
+        for part, name, error in (*in_book(SUMMARY_ERRORS), *SET_SUMMARY_ERRORS):
+            with mock.patch.object(part, name, error), unheld("hold_summary", "hold_reset"), \
+                    self.assertRaises(listing.Disagree, msg=error.__name__):
+                listing.answers(data)
+        for part, name, error in (*in_book(FALSE_SUMMARIES), *SET_SUMMARY_ERRORS[:-1]):
+            with mock.patch.object(part, name, error), \
+                    self.assertRaises(listing.Disagree, msg=error.__name__):
+                listing.answers(text_in(but_for_may(may_lines())))
+
+    def test_may_is_held_against_the_reset(self):
+        """Of the four answers about lags each but the right one is refused."""
+        program, seen = listing.Program(), set()
+        for text in listing.lines_of(stored.MAY):
+            answer, told = program.answer(text), ("000 yes", "000 011", "000 012", "000 013")
+            if text.startswith(b"may") and answer in told:
+                desk = int(text[4:])
+                program.hold_reset(desk, answer)
+                for other in {*told} - {answer}:
+                    with self.assertRaises(listing.Disagree):
+                        program.hold_reset(desk, other)
+                seen.add(answer)
+        self.assertEqual(len(seen), 4)
 
 
 # The runners
@@ -2200,6 +3021,33 @@ def asks_room_last(batch):
     return answers, ended
 
 
+def asks_the_summary_before_room(batch):
+    """A library that gives BadSummary before NoRoom."""
+    answers, ended = stand_in_library()(batch)
+    for at, asked in enumerate(batch):
+        if raw.answer_of(*asked[:2])[0] == book.BAD_SUMMARY:
+            answers[at] = book.BAD_SUMMARY, answers[at][1]
+    return answers, ended
+
+
+def asks_less(**needs):
+    """A library that asks other lengths of the value buffers of a call."""
+    def library(batch):
+        with mock.patch.dict(raw.NEEDS, needs):
+            return stand_in_library()(batch)
+    return library
+
+
+def spoils_where_refused(batch):
+    """A library that leaves zeros in the summary of a change that is refused."""
+    answers, ended = stand_in_library()(batch)
+    for asked, (number, memories) in zip(batch, answers):
+        if asked.name in raw.OFFICE_CALLS and number != book.DONE:
+            length = len(memories[1]) - 2 * raw.GUARD
+            memories[1] = memories[1][:raw.GUARD] + bytes(length) + memories[1][raw.GUARD + length:]
+    return answers, ended
+
+
 def with_odds(change):
     """A library that gives a picture's values as they are changed."""
     answer_of = raw.answer_of
@@ -2243,8 +3091,9 @@ POSSIBLE = {
     "picture": {0, 1, 5, 15, 16, 18},
     "show": {0, 1, 5, 15}, "write": {0, 1, 5, 15},
     "label_before": {0, 2, 14, 15, 16}, "label_compare": {0, 2, 14, 15, 16},
-    "label_newest": {0, 2, 14, 15, 16},
+    "label_newest": {0, 2, 14, 15, 16}, "may": {0, 2, 3, 15, 21},
 }
+POSSIBLE.update((f"office_{name}", POSSIBLE[name] | {21}) for name in listing.CHANGES)
 
 
 def told_of_shelf(trial):
@@ -2327,17 +3176,48 @@ def in_batches(asked, size):
     return [asked[at:at + size] for at in range(0, len(asked), size)]
 
 
+def is_of_the_office(asked):
+    return asked.name == "may" or asked.name in raw.OFFICE_CALLS
+
+
+def told_of_office(trial):
+    """The change, what it is answered on the book alone, the summary's length, if it has room, and its number."""
+    name, arguments = trial
+    numbers, (given, summary, *rest) = raw.parted(arguments)
+    alone = raw.made_on_book(name)
+    if alone == "start":
+        numbers = raw.setup_in(numbers, rest.pop(0).content())
+    on_book = getattr(book, alone)(given.content(), *numbers)[0]
+    room = all(buffer.length >= need for buffer, need in zip(rest, raw.needs(name, numbers)))
+    return alone, on_book, summary.length, room, raw.expected(name, arguments)[0]
+
+
+def told_of_may(trial):
+    """The setup, the summary, the desk, the room for the answer and what is expected, the value with it."""
+    name, arguments = trial
+    (*numbers, desk), (limits, summary, answer) = raw.parted(arguments)
+    number, memories = raw.expected(name, arguments)
+    value = memories[2][raw.GUARD] if number == book.DONE else None
+    D, P, listed, *lags = raw.setup_in(numbers, limits.content())
+    return book.Setup(D, P, tuple(listed), *lags), summary.content(), desk, answer.length, number, value
+
+
 class Raw(unittest.TestCase):
     @classmethod
     def setUpClass(cls):
         """The same calls for every library, made once; all kinds in each batch, so that errors are soon found."""
         asked = list(itertools.chain.from_iterable(raw.batches(raw.DEFAULT_CALLS, 1)))
         random.Random(1).shuffle(asked)
+        cls.every_call = asked
+        # The office and may are asked apart, so that each error of the other calls is found by these alone.
+        office = [one for one in asked if is_of_the_office(one)]
+        asked = [one for one in asked if not is_of_the_office(one)]
         cls.batches = in_batches(asked, raw.BATCH)
         # Few at a time find an error sooner; those of rings go by a P outside of 3 to 254.
         cls.few = in_batches(asked, 50)
         cls.few_of_rings = in_batches([one for one in asked if raw.phases_of(one) not in range(3, 255)], 50)
-        cls.seen = cls.compare(stand_in_library())
+        cls.few_of_the_office = in_batches(office, 50)
+        cls.seen = cls.compare(stand_in_library(), in_batches(cls.every_call, raw.BATCH))
 
     @classmethod
     def compare(cls, library, batches=None):
@@ -2349,14 +3229,19 @@ class Raw(unittest.TestCase):
         for name, numbers in POSSIBLE.items():
             self.assertEqual({key[1] for key in seen if key[0] == name}, numbers, name)
             # Under P of 256, too, but for those that hang on lengths alone.
-            by_lengths = {book.NO_ROOM, book.BAD_BOOK} if name == "start" else {book.NO_ROOM}
+            is_start = raw.made_on_book(name) == "start"
+            by_lengths = {book.NO_ROOM, book.BAD_BOOK} if is_start else {book.NO_ROOM}
             full = {key[1] for key in seen if key[0] == name and key[3]}
             self.assertEqual(full - by_lengths, numbers - by_lengths, name)
         for name in ("compare", "label_compare"):
             self.assertEqual({key[2] for key in seen if key[:2] == (name, 0)}, {1, 2, 3, 4, 5})
         self.assertEqual({key[2] for key in seen if key[:2] == ("receive", 0)}, set(range(8)))
+        self.assertEqual({key[2] for key in seen if key[:2] == ("office_receive", 0)}, set(range(8)))
         self.assertEqual({key[2] for key in seen if key[:2] == ("picture", 0)},
                          {(), *itertools.combinations(range(8), 2)})
+        # Each answer of may, on the full ring and on others.
+        self.assertEqual({key[2:] for key in seen if key[:2] == ("may", 0)},
+                         set(itertools.product((0, 11, 12, 13), (False, True))))
 
     def found(self, library, *parts, batches=None):
         with contextlib.redirect_stdout(io.StringIO()) as told:
@@ -2365,7 +3250,8 @@ class Raw(unittest.TestCase):
             self.assertIn(part, told.getvalue())
 
     def test_each_error_is_found(self):
-        for errors, batches in ((RAW_ERRORS, self.few), (RING_ERRORS + RAW_RING_ERRORS, self.few_of_rings)):
+        for errors, batches in ((RAW_ERRORS, self.few), (RING_ERRORS + RAW_RING_ERRORS, self.few_of_rings),
+                                (SUMMARY_ERRORS + RAW_SUMMARY_ERRORS, self.few_of_the_office)):
             for name, error in errors:
                 with self.subTest(error.__name__):
                     self.found(stand_in_library(**{name: error}), "differs", "second", "library", batches=batches)
@@ -2529,8 +3415,8 @@ class Raw(unittest.TestCase):
 
     def test_no_call_but_start_changes_a_limit(self):
         """Nor any byte of the header, on whatever book."""
-        for asked in itertools.chain.from_iterable(self.batches):
-            if asked.name not in ("start", *raw.LABEL_CALLS):
+        for asked in self.every_call:
+            if raw.made_on_book(asked.name) not in ("start", "may", *raw.LABEL_CALLS):
                 before = asked.arguments[0].content()
                 after = asked.memories[0][raw.GUARD:-raw.GUARD]
                 self.assertEqual(before[19:176:20], after[19:176:20])
@@ -2654,6 +3540,138 @@ class Raw(unittest.TestCase):
     def test_learnt_buffers_are_asked_always(self):
         self.found(asks_learnt_never, "second answers 15")
         self.found(asks_learnt_where_kept, "second answers 15")
+
+    def test_the_office_finds_each_error_of_a_change(self):
+        """As the calls on the book alone do."""
+        for name, error in OFFICE_ERRORS:
+            with self.subTest(error.__name__):
+                self.found(stand_in_library(**{name: error}), "office_", "differs", batches=self.few_of_the_office)
+
+    def test_summaries_of_every_length(self):
+        """26 alone will do, for each change that is done on its book."""
+        seen = {told_of_office(trial) for trial in raw.summary_length_trials(random.Random(3))}
+        self.assertEqual(seen, {(name, 0, length, True, 0 if length == 26 else 21)
+                                for name in listing.CHANGES for length in raw.SUMMARY_LENGTHS})
+        self.assertLessEqual({*range(41), 256, 282, 2**16 + 26}, {*raw.SUMMARY_LENGTHS})
+
+    def test_summaries_of_every_kind(self):
+        """Whatever they were, they are true of the book that is left; also where they were true before."""
+        seen = set()
+        for name, arguments in raw.summary_content_trials(random.Random(3)):
+            given, summary = arguments[:2]
+            number, (after, told, *_) = raw.expected(name, arguments)
+            after, told = (memory[raw.GUARD:-raw.GUARD] for memory in (after, told))
+            self.assertEqual((number, told), (0, counted_lags(after)))
+            seen.add((name, summary.content()[:2] == b"SU", summary.content() == counted_lags(given.content())))
+        self.assertEqual(seen, {(f"office_{name}", *kind) for name in listing.CHANGES
+                                for kind in ((True, True), (True, False), (False, False))})
+
+    def test_room_comes_before_the_summary(self):
+        seen = {told_of_office(trial) for trial in raw.summary_room_trials(random.Random(3))}
+        self.assertEqual(seen, {(name, 0, length, room, 15 if not room else 0 if length == 26 else 21)
+                                for name in listing.EVENTS for length in (0, 25, 26, 27) for room in (False, True)})
+
+    def test_the_book_comes_before_the_summary(self):
+        """Each reason, under P of 256 and under any; nothing is changed."""
+        seen = set()
+        for name, arguments in raw.summary_reason_trials(random.Random(3)):
+            alone, on_book, length, _, number = told_of_office((name, arguments))
+            self.assertEqual(number, on_book)
+            memories = raw.expected(name, arguments)[1]
+            self.assertEqual(memories, [buffer.memory for buffer in raw.parted(arguments)[1]])
+            seen.add((alone, number, length))
+        self.assertEqual(seen, {(name, number, length) for name in listing.CHANGES
+                                for number in POSSIBLE[name] - {0, 15} for length in (0, 25, 26, 27)})
+
+    def test_books_of_every_kind(self):
+        """All sound: full shelves, desks that have not started, both large rings, and each lag at its bound."""
+        seen = set()
+        for given in raw.books_of_every_kind(random.Random(3)):
+            self.assertTrue(book.sound(given))
+            setup, summary = book.setup_of(given), counted_lags(given)
+            owners, started = given[818::20], given[18:18 + 20 * setup.D:20]
+            seen |= {("P", setup.P), ("full", min(owners) > 0), ("all", min(started) > 0)}
+            for at, bound in enumerate((setup.M, 2 * setup.M, setup.A)):
+                lags = summary[2 + at:2 + 3 * setup.D:3]
+                seen |= {("lag", at, "bound") for lag in lags if lag == bound}
+                seen |= {("lag", at, "below") for lag in lags if 0 < lag == bound - 1}
+        self.assertLessEqual({("P", 255), ("P", 256), *itertools.product(("full", "all"), (False, True)),
+                              *itertools.product(("lag",), range(3), ("bound", "below"))}, seen)
+
+    def test_mail_tells_through_the_office(self):
+        trials = raw.office_told_trials(random.Random(3))
+        self.assertEqual([raw.answer_of(*trial)[2][1] for trial in trials], [*range(8)])
+
+    def test_lags_of_summaries_about_their_bounds(self):
+        """Each of the 24 at its bound, where it reads, and above it, where it does not; of any desk."""
+        seen = set()
+        for setup, summary, desk, _, number, value in map(told_of_may, raw.may_bound_trials(random.Random(3))):
+            bounds = (setup.M, 2 * setup.M, setup.A) * 8
+            good = all(lag <= bound for lag, bound in zip(summary[2:], bounds))
+            self.assertEqual((number, value), (0, by_lags(setup, *summary[2 + 3 * desk:5 + 3 * desk]))
+                             if good else (21, None))
+            seen |= {(*setup[:2], at, lag - bound if lag - bound < 2 else "far", desk == at // 3)
+                     for at, (lag, bound) in enumerate(zip(summary[2:], bounds)) if lag >= bound}
+        for (D, P), at in itertools.product(((2, 200), (5, 9), (8, 254)), range(24)):
+            self.assertLessEqual({(D, P, at, more) for more in (0, 1, "far")}, {one[:4] for one in seen})
+        self.assertLessEqual({(D, at, 0) for D in (2, 8) for at in range(24)},
+                             {(D, at, more) for D, P, at, more, _ in seen if P == 256})
+        self.assertEqual({one[3:] for one in seen}, set(itertools.product((0, 1, "far"), (False, True))))
+
+    def test_what_may_is_asked(self):
+        """Lengths, marks, desks and setups, each in the order of the reasons."""
+        seen = set()
+        for trials in (raw.may_summary_trials, raw.may_desk_trials, raw.may_setup_trials, raw.may_reason_trials):
+            for setup, summary, desk, room, number, _ in map(told_of_may, trials(random.Random(3))):
+                reads = book.summary_reads(setup, summary)
+                self.assertEqual(number, 2 if not book.permitted(setup) else 3 if desk >= setup.D
+                                 else 15 if room < 1 else 0 if reads else 21)
+                seen |= {("length", len(summary), number), ("mark", summary[:2], number), ("desk", desk, number),
+                         ("reasons", book.permitted(setup), desk < setup.D, room, len(summary) == 26),
+                         ("reads", reads, number)}
+        self.assertLessEqual({("length", length, 0 if length == 26 else 21) for length in raw.SUMMARY_LENGTHS}, seen)
+        self.assertLessEqual({("mark", mark, 21) for mark in (b"ST", b"TU", b"US", bytes(2))}, seen)
+        self.assertLessEqual({("desk", desk, 3) for desk in (2, 7, 8, 255, 256, 2**32, 2**64 - 1)}, seen)
+        every = itertools.product(("reasons",), (False, True), (False, True), (0, 1, 2), (False, True))
+        self.assertLessEqual({*every, *itertools.product(("reads",), (False, True), (3, 15))}, seen)
+
+    def test_may_beside_the_reset(self):
+        """By turns: what may tells of a true summary is what the reset of its book is answered."""
+        trials, seen = list(raw.may_reset_trials(random.Random(3))), set()
+        for may, (name, arguments) in zip(trials[::2], trials[1::2]):
+            setup, summary, desk, _, number, value = told_of_may(may)
+            given = arguments[0].content()
+            self.assertEqual((name, arguments[1:3], summary), ("reset", [desk, 0], counted_lags(given)))
+            self.assertEqual((setup, number, value), (book.setup_of(given), 0, book.reset(given, desk, 0)[0]))
+            seen.add((value, setup.P == 256))
+        self.assertEqual(seen, set(itertools.product((0, 11, 12, 13), (False, True))))
+
+    def test_the_office_and_may_as_they_are_asked(self):
+        """The summary is lent behind the book, or behind the limits, and the desk is may's last number."""
+        rng, lent = random.Random(3), lambda content: raw.Lent(rng, content)
+        start = raw.office_call(rng, "start", lent(b"book"), lent(b"summary"), (3, 5, [4], 2, 4, 6, 7))
+        send = raw.office_call(rng, "send", lent(b"book"), lent(b"summary"), [8, 9, 1], (20, 1, 1))
+        drop = raw.office_call(rng, "drop", lent(b"book"), lent(b"summary"), [8])
+        may = raw.may_call(rng, (3, 5, [4], 2, 4, 6, 7), b"summary", 9)
+        for (name, arguments), place, numbers, lengths in (
+                (start, 15, [3, 5, 2, 4, 6, 7], [4, 7, 8]), (send, 17, [8, 9, 1], [4, 7, 20, 1, 1]),
+                (drop, 20, [8], [4, 7]), (may, 22, [3, 5, 2, 4, 6, 7, 9], [8, 7, 1])):
+            asked = raw.frame(raw.Asked(name, arguments, None, None))
+            self.assertEqual(asked[:3], bytes((place, len(numbers), len(lengths))))
+            self.assertEqual([*asked[3:3 + 8 * len(numbers):8]], numbers)
+            self.assertEqual([buffer.length for buffer in raw.parted(arguments)[1]], lengths)
+        self.assertEqual([*raw.NEEDS][15:], ["office_start", "office_local", "office_send", "office_receive",
+                                             "office_reset", "office_drop", "office_discard", "may"])
+
+    def test_a_driver_that_asks_the_office_otherwise(self):
+        """The summary before the room, no room for a value, and a summary that a refusal spoils."""
+        short = [asks_less(**{name: seeds.placed(raw.NEEDS[name], at, 0)})
+                 for name in (*raw.OFFICE_CALLS, "may") for at in range(len(raw.NEEDS[name]))]
+        self.assertEqual(len(short), 11)
+        for library in (asks_the_summary_before_room, asks_a_slot_never, *short):
+            self.found(library, "second answers 15", batches=self.few_of_the_office)
+        self.found(asks_a_slot_always, "library 15", batches=self.few_of_the_office)
+        self.found(spoils_where_refused, "buffer 1, byte ", batches=self.few_of_the_office)
 
     def test_a_bad_driver_is_told(self):
         self.found(beside, f"call {raw.BATCH} of seed 1", "buffer ")
