@@ -17,11 +17,15 @@ struct event {
 /* One above the last two of eight desks. */
 enum { NO_PAIR = SEATS * SEATS };
 
+/* Where no summary stands beside the book, none can be of the wrong length. */
+enum { BOOK_ALONE = 1 };
+
 static const uint8_t header_mark[2] = {0x42, 0x4B};
 static const uint8_t seat_mark[2] = {0x53, 0x45};
 static const uint8_t mail_mark[2] = {0x4D, 0x41};
 static const uint8_t shelf_mark[2] = {0x53, 0x48};
 static const uint8_t stamp_mark[2] = {0x53, 0x54};
+static const uint8_t summary_mark[2] = {0x53, 0x55};
 
 static int in_range(size_t number, size_t low, size_t high)
 {
@@ -272,15 +276,17 @@ static void fresh_records(uint8_t *record, size_t count, const uint8_t mark[2])
     }
 }
 
-uint8_t plain_start(uint8_t *book, size_t book_len, size_t desks, size_t phases,
-                    const size_t *limits, size_t limits_len, size_t seat_lag, size_t shelf_lag,
-                    size_t back, size_t ahead)
+static uint8_t make_start(uint8_t *book, size_t book_len, int summary_fits, size_t desks,
+                          size_t phases, const size_t *limits, size_t limits_len, size_t seat_lag,
+                          size_t shelf_lag, size_t back, size_t ahead)
 {
     struct setup s = {desks, phases, seat_lag, shelf_lag, back, ahead};
     if (book_len != BOOK_BYTES)
         return BAD_BOOK;
     if (!setup_permitted(&s) || !limits_permitted(&s, limits, limits_len))
         return BAD_SETUP;
+    if (!summary_fits)
+        return BAD_SUMMARY;
     const uint8_t header[SEATS_AT] = {
         header_mark[0], header_mark[1], (uint8_t)desks, (uint8_t)phases, 0,
         (uint8_t)seat_lag, (uint8_t)shelf_lag, (uint8_t)back, (uint8_t)ahead
@@ -294,8 +300,17 @@ uint8_t plain_start(uint8_t *book, size_t book_len, size_t desks, size_t phases,
     return DONE;
 }
 
-uint8_t plain_local(uint8_t *book, size_t book_len, size_t desk, size_t keep, uint8_t *stamp,
-                    size_t stamp_len, uint8_t *slot, size_t slot_len)
+uint8_t plain_start(uint8_t *book, size_t book_len, size_t desks, size_t phases,
+                    const size_t *limits, size_t limits_len, size_t seat_lag, size_t shelf_lag,
+                    size_t back, size_t ahead)
+{
+    return make_start(book, book_len, BOOK_ALONE, desks, phases, limits, limits_len, seat_lag,
+                      shelf_lag, back, ahead);
+}
+
+static uint8_t make_local(uint8_t *book, size_t book_len, int summary_fits, size_t desk,
+                          size_t keep, uint8_t *stamp, size_t stamp_len, uint8_t *slot,
+                          size_t slot_len)
 {
     struct setup s;
     if (!book_sound(book, book_len, &s))
@@ -309,11 +324,19 @@ uint8_t plain_local(uint8_t *book, size_t book_len, size_t desk, size_t keep, ui
         return SHELF_FULL;
     if (event_cramped(stamp_len, keep, slot_len))
         return NO_ROOM;
+    if (!summary_fits)
+        return BAD_SUMMARY;
     tick(book, desk);
     put_seat_stamp(book, desk, s.desks, stamp);
     if (keep)
         keep_row(book, desk, free_slot, slot);
     return DONE;
+}
+
+uint8_t plain_local(uint8_t *book, size_t book_len, size_t desk, size_t keep, uint8_t *stamp,
+                    size_t stamp_len, uint8_t *slot, size_t slot_len)
+{
+    return make_local(book, book_len, BOOK_ALONE, desk, keep, stamp, stamp_len, slot, slot_len);
 }
 
 static void post(uint8_t *book, size_t place, size_t desk, size_t to)
@@ -324,9 +347,9 @@ static void post(uint8_t *book, size_t place, size_t desk, size_t to)
     memcpy(mail + ROW_AT, book + seat_at(desk) + ROW_AT, ROW_BYTES);
 }
 
-uint8_t plain_send(uint8_t *book, size_t book_len, size_t desk, size_t to, size_t keep,
-                   uint8_t *stamp, size_t stamp_len, uint8_t *place, size_t place_len,
-                   uint8_t *slot, size_t slot_len)
+static uint8_t make_send(uint8_t *book, size_t book_len, int summary_fits, size_t desk, size_t to,
+                         size_t keep, uint8_t *stamp, size_t stamp_len, uint8_t *place,
+                         size_t place_len, uint8_t *slot, size_t slot_len)
 {
     struct setup s;
     if (!book_sound(book, book_len, &s))
@@ -345,6 +368,8 @@ uint8_t plain_send(uint8_t *book, size_t book_len, size_t desk, size_t to, size_
         return SHELF_FULL;
     if (event_cramped(stamp_len, keep, slot_len) || place_len < 1)
         return NO_ROOM;
+    if (!summary_fits)
+        return BAD_SUMMARY;
     tick(book, desk);
     post(book, free_place, desk, to);
     put_seat_stamp(book, desk, s.desks, stamp);
@@ -352,6 +377,14 @@ uint8_t plain_send(uint8_t *book, size_t book_len, size_t desk, size_t to, size_
     if (keep)
         keep_row(book, desk, free_slot, slot);
     return DONE;
+}
+
+uint8_t plain_send(uint8_t *book, size_t book_len, size_t desk, size_t to, size_t keep,
+                   uint8_t *stamp, size_t stamp_len, uint8_t *place, size_t place_len,
+                   uint8_t *slot, size_t slot_len)
+{
+    return make_send(book, book_len, BOOK_ALONE, desk, to, keep, stamp, stamp_len, place, place_len,
+                     slot, slot_len);
 }
 
 /* How many entries changed. The receiver's own is never merged: it alone counts its own events. */
@@ -375,9 +408,9 @@ static uint8_t merge(uint8_t *book, const struct setup *s, size_t desk, const ui
     return changed;
 }
 
-uint8_t plain_receive(uint8_t *book, size_t book_len, size_t desk, size_t place, size_t keep,
-                      uint8_t *stamp, size_t stamp_len, uint8_t *learnt, size_t learnt_len,
-                      uint8_t *slot, size_t slot_len)
+static uint8_t make_receive(uint8_t *book, size_t book_len, int summary_fits, size_t desk,
+                            size_t place, size_t keep, uint8_t *stamp, size_t stamp_len,
+                            uint8_t *learnt, size_t learnt_len, uint8_t *slot, size_t slot_len)
 {
     struct setup s;
     if (!book_sound(book, book_len, &s))
@@ -396,6 +429,8 @@ uint8_t plain_receive(uint8_t *book, size_t book_len, size_t desk, size_t place,
         return SHELF_FULL;
     if (event_cramped(stamp_len, keep, slot_len) || learnt_len < 1)
         return NO_ROOM;
+    if (!summary_fits)
+        return BAD_SUMMARY;
     tick(book, desk);
     *learnt = merge(book, &s, desk, mail + ROW_AT);
     free_record(mail);
@@ -403,6 +438,14 @@ uint8_t plain_receive(uint8_t *book, size_t book_len, size_t desk, size_t place,
     if (keep)
         keep_row(book, desk, free_slot, slot);
     return DONE;
+}
+
+uint8_t plain_receive(uint8_t *book, size_t book_len, size_t desk, size_t place, size_t keep,
+                      uint8_t *stamp, size_t stamp_len, uint8_t *learnt, size_t learnt_len,
+                      uint8_t *slot, size_t slot_len)
+{
+    return make_receive(book, book_len, BOOK_ALONE, desk, place, keep, stamp, stamp_len, learnt,
+                        learnt_len, slot, slot_len);
 }
 
 /* A reset is an event too: the seat is started, and begins the next phase of the ring. */
@@ -439,8 +482,9 @@ static uint8_t reset_behind(const uint8_t *book, const struct setup *s, size_t d
     return DONE;
 }
 
-uint8_t plain_reset(uint8_t *book, size_t book_len, size_t desk, size_t keep, uint8_t *stamp,
-                    size_t stamp_len, uint8_t *slot, size_t slot_len)
+static uint8_t make_reset(uint8_t *book, size_t book_len, int summary_fits, size_t desk,
+                          size_t keep, uint8_t *stamp, size_t stamp_len, uint8_t *slot,
+                          size_t slot_len)
 {
     struct setup s;
     if (!book_sound(book, book_len, &s))
@@ -455,6 +499,8 @@ uint8_t plain_reset(uint8_t *book, size_t book_len, size_t desk, size_t keep, ui
         return behind;
     if (event_cramped(stamp_len, keep, slot_len))
         return NO_ROOM;
+    if (!summary_fits)
+        return BAD_SUMMARY;
     turn(book, &s, desk);
     put_seat_stamp(book, desk, s.desks, stamp);
     if (keep)
@@ -462,26 +508,152 @@ uint8_t plain_reset(uint8_t *book, size_t book_len, size_t desk, size_t keep, ui
     return DONE;
 }
 
-uint8_t plain_drop(uint8_t *book, size_t book_len, size_t slot)
+uint8_t plain_reset(uint8_t *book, size_t book_len, size_t desk, size_t keep, uint8_t *stamp,
+                    size_t stamp_len, uint8_t *slot, size_t slot_len)
+{
+    return make_reset(book, book_len, BOOK_ALONE, desk, keep, stamp, stamp_len, slot, slot_len);
+}
+
+static uint8_t make_drop(uint8_t *book, size_t book_len, int summary_fits, size_t slot)
 {
     struct setup s;
     if (!book_sound(book, book_len, &s))
         return BAD_BOOK;
     if (!slot_used(book, slot))
         return NO_PLACE;
+    if (!summary_fits)
+        return BAD_SUMMARY;
     free_record(book + slot_at(slot));
     return DONE;
 }
 
-uint8_t plain_discard(uint8_t *book, size_t book_len, size_t place)
+uint8_t plain_drop(uint8_t *book, size_t book_len, size_t slot)
+{
+    return make_drop(book, book_len, BOOK_ALONE, slot);
+}
+
+static uint8_t make_discard(uint8_t *book, size_t book_len, int summary_fits, size_t place)
 {
     struct setup s;
     if (!book_sound(book, book_len, &s))
         return BAD_BOOK;
     if (!place_used(book, place))
         return NO_PLACE;
+    if (!summary_fits)
+        return BAD_SUMMARY;
     free_record(book + place_at(place));
     return DONE;
+}
+
+uint8_t plain_discard(uint8_t *book, size_t book_len, size_t place)
+{
+    return make_discard(book, book_len, BOOK_ALONE, place);
+}
+
+/* The first of a desk's three lags: in seats, then in mail, then in slots. */
+static size_t lags_at(size_t desk)
+{
+    return LAGS_AT + LAGS_BYTES * desk;
+}
+
+/* Each desk's lag in the row is noted where it is the largest so far. */
+static void note_lags(const uint8_t *book, const struct setup *s, const uint8_t *row, uint8_t *largest)
+{
+    for (size_t desk = 0; desk < s->desks; desk++) {
+        size_t behind = lag(own_phase(book, desk), row[2 * desk], s->phases);
+        if (behind > largest[LAGS_BYTES * desk])
+            largest[LAGS_BYTES * desk] = (uint8_t)behind;
+    }
+}
+
+/* A desk's own seat need not be left out: its entry lags 0 there. */
+static void put_summary(const uint8_t *book, uint8_t *summary)
+{
+    struct setup s = setup_of(book);
+    uint8_t *lags = summary + LAGS_AT;
+    memcpy(summary, summary_mark, sizeof summary_mark);
+    memset(lags, 0, SUMMARY_BYTES - LAGS_AT);
+    for (size_t desk = 0; desk < s.desks; desk++)
+        note_lags(book, &s, book + seat_at(desk) + ROW_AT, lags);
+    for (size_t place = 0; place < PLACES; place++)
+        if (place_used(book, place))
+            note_lags(book, &s, book + place_at(place) + ROW_AT, lags + 1);
+    for (size_t slot = 0; slot < SLOTS; slot++)
+        if (slot_used(book, slot))
+            note_lags(book, &s, book + slot_at(slot) + ROW_AT, lags + 2);
+}
+
+/* The summary is made of the book as an accepted change left it. */
+static uint8_t summed_up(uint8_t answer, const uint8_t *book, uint8_t *summary)
+{
+    if (answer == DONE)
+        put_summary(book, summary);
+    return answer;
+}
+
+static int fits(size_t summary_len)
+{
+    return summary_len == SUMMARY_BYTES;
+}
+
+uint8_t plain_office_start(uint8_t *book, size_t book_len, uint8_t *summary, size_t summary_len,
+                           size_t desks, size_t phases, const size_t *limits, size_t limits_len,
+                           size_t seat_lag, size_t shelf_lag, size_t back, size_t ahead)
+{
+    uint8_t answer = make_start(book, book_len, fits(summary_len), desks, phases, limits,
+                                limits_len, seat_lag, shelf_lag, back, ahead);
+    return summed_up(answer, book, summary);
+}
+
+uint8_t plain_office_local(uint8_t *book, size_t book_len, uint8_t *summary, size_t summary_len,
+                           size_t desk, size_t keep, uint8_t *stamp, size_t stamp_len,
+                           uint8_t *slot, size_t slot_len)
+{
+    uint8_t answer = make_local(book, book_len, fits(summary_len), desk, keep, stamp, stamp_len,
+                                slot, slot_len);
+    return summed_up(answer, book, summary);
+}
+
+uint8_t plain_office_send(uint8_t *book, size_t book_len, uint8_t *summary, size_t summary_len,
+                          size_t desk, size_t to, size_t keep, uint8_t *stamp, size_t stamp_len,
+                          uint8_t *place, size_t place_len, uint8_t *slot, size_t slot_len)
+{
+    uint8_t answer = make_send(book, book_len, fits(summary_len), desk, to, keep, stamp, stamp_len,
+                               place, place_len, slot, slot_len);
+    return summed_up(answer, book, summary);
+}
+
+uint8_t plain_office_receive(uint8_t *book, size_t book_len, uint8_t *summary, size_t summary_len,
+                             size_t desk, size_t place, size_t keep, uint8_t *stamp,
+                             size_t stamp_len, uint8_t *learnt, size_t learnt_len, uint8_t *slot,
+                             size_t slot_len)
+{
+    uint8_t answer = make_receive(book, book_len, fits(summary_len), desk, place, keep, stamp,
+                                  stamp_len, learnt, learnt_len, slot, slot_len);
+    return summed_up(answer, book, summary);
+}
+
+uint8_t plain_office_reset(uint8_t *book, size_t book_len, uint8_t *summary, size_t summary_len,
+                           size_t desk, size_t keep, uint8_t *stamp, size_t stamp_len,
+                           uint8_t *slot, size_t slot_len)
+{
+    uint8_t answer = make_reset(book, book_len, fits(summary_len), desk, keep, stamp, stamp_len,
+                                slot, slot_len);
+    return summed_up(answer, book, summary);
+}
+
+uint8_t plain_office_drop(uint8_t *book, size_t book_len, uint8_t *summary, size_t summary_len,
+                          size_t slot)
+{
+    uint8_t answer = make_drop(book, book_len, fits(summary_len), slot);
+    return summed_up(answer, book, summary);
+}
+
+uint8_t plain_office_discard(uint8_t *book, size_t book_len, uint8_t *summary, size_t summary_len,
+                             size_t place)
+{
+    uint8_t answer = make_discard(book, book_len, fits(summary_len), place);
+    return summed_up(answer, book, summary);
 }
 
 static struct event kept_event(const uint8_t *book, size_t slot)
@@ -769,5 +941,46 @@ uint8_t plain_label_newest(size_t desks, size_t phases, const size_t *limits, si
         *answer = FIRST;
     else
         *answer = found == BEFORE ? SECOND : NEITHER;
+    return DONE;
+}
+
+/* All 24 lags are held to their bounds, those of desks that are not there too. */
+static int summary_reads(const struct setup *s, const uint8_t *summary, size_t summary_len)
+{
+    if (!fits(summary_len) || !has_mark(summary, summary_mark))
+        return 0;
+    for (size_t desk = 0; desk < SEATS; desk++) {
+        const uint8_t *lags = summary + lags_at(desk);
+        if (lags[0] > s->seat_lag || lags[1] > 2 * s->seat_lag || lags[2] > s->shelf_lag)
+            return 0;
+    }
+    return 1;
+}
+
+/* What a reset would be answered: the largest lag tells whether any is as large as it may be. */
+static uint8_t reset_foretold(const struct setup *s, const uint8_t *lags)
+{
+    if (lags[0] == s->seat_lag)
+        return SEAT_BEHIND;
+    if (lags[1] == 2 * s->seat_lag)
+        return MAIL_BEHIND;
+    return lags[2] == s->shelf_lag ? SHELF_BEHIND : DONE;
+}
+
+uint8_t plain_may(size_t desks, size_t phases, const size_t *limits, size_t limits_len,
+                  size_t seat_lag, size_t shelf_lag, size_t back, size_t ahead,
+                  const uint8_t *summary, size_t summary_len, size_t desk, uint8_t *answer,
+                  size_t answer_len)
+{
+    struct setup s = {desks, phases, seat_lag, shelf_lag, back, ahead};
+    if (!setup_permitted(&s) || !limits_permitted(&s, limits, limits_len))
+        return BAD_SETUP;
+    if (desk >= desks)
+        return NO_DESK;
+    if (answer_len < 1)
+        return NO_ROOM;
+    if (!summary_reads(&s, summary, summary_len))
+        return BAD_SUMMARY;
+    *answer = reset_foretold(&s, summary + lags_at(desk));
     return DONE;
 }

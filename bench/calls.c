@@ -17,13 +17,16 @@
 #define JOIN(prefix, name) JOIN_NAMES(prefix, name)
 #define CALL(name) JOIN(PREFIX, name)
 
+#define OFFICE book, BOOK, summary, SUMMARY
 #define SETUP DESKS, phases, limits, DESKS, 100, 200, 100, 100
 
 enum {
-    BOOK = 1456, STAMP = 20, ROW = 16, ODDS = 2, DESKS = 8, PLACES_AND_SLOTS = 32, RESET_EVERY = 5
+    BOOK = 1456, SUMMARY = 26, STAMP = 20, ROW = 16, ODDS = 2, DESKS = 8, PLACES_AND_SLOTS = 32,
+    RESET_EVERY = 5
 };
 
 static uint8_t book[BOOK], prepared[BOOK], stamp[STAMP], row[ROW], odds[ODDS], learnt, slot, value;
+static uint8_t summary[SUMMARY], prepared_summary[SUMMARY];
 static size_t phases;
 static const size_t limits[DESKS] = {255, 255, 255, 255, 255, 255, 255, 255};
 static const size_t first_slots[DESKS] = {0, 1, 2, 3, 4, 5, 6, 7};
@@ -40,29 +43,30 @@ static void must(uint8_t answer)
     exit(1);
 }
 
+/* Books are made through the office, so that each has its own summary beside it. */
 static void fresh(void)
 {
-    must(CALL(start)(book, BOOK, SETUP));
+    must(CALL(office_start)(OFFICE, SETUP));
 }
 
 static void with_mail(void)
 {
     fresh();
-    must(CALL(send)(book, BOOK, 0, 1, 0, stamp, STAMP, &value, 1, NULL, 0));
+    must(CALL(office_send)(OFFICE, 0, 1, 0, stamp, STAMP, &value, 1, NULL, 0));
 }
 
 /* The mail that is sent is received, so the book holds two stamps and no more. */
 static void with_stamps(void)
 {
     fresh();
-    must(CALL(send)(book, BOOK, 0, 1, 1, stamp, STAMP, &value, 1, &slot, 1));
-    must(CALL(receive)(book, BOOK, 1, 0, 1, stamp, STAMP, &learnt, 1, &slot, 1));
+    must(CALL(office_send)(OFFICE, 0, 1, 1, stamp, STAMP, &value, 1, &slot, 1));
+    must(CALL(office_receive)(OFFICE, 1, 0, 1, stamp, STAMP, &learnt, 1, &slot, 1));
 }
 
 static void keep_each_desk(void)
 {
     for (size_t desk = 0; desk < DESKS; desk++)
-        must(CALL(local)(book, BOOK, desk, 1, stamp, STAMP, &slot, 1));
+        must(CALL(office_local)(OFFICE, desk, 1, stamp, STAMP, &slot, 1));
 }
 
 static void with_picture(void)
@@ -78,9 +82,9 @@ static void shelve(void)
     for (size_t turn = 0; turn < PLACES_AND_SLOTS; turn++) {
         size_t desk = turn % DESKS, next = (desk + 1) % DESKS, keep = turn + 1 < PLACES_AND_SLOTS;
         if (turn % RESET_EVERY == 0)
-            must(CALL(reset)(book, BOOK, desk, 0, stamp, STAMP, NULL, 0));
-        must(CALL(send)(book, BOOK, desk, next, 0, stamp, STAMP, &value, 1, NULL, 0));
-        must(CALL(receive)(book, BOOK, next, value, keep, stamp, STAMP, &learnt, 1, &slot, 1));
+            must(CALL(office_reset)(OFFICE, desk, 0, stamp, STAMP, NULL, 0));
+        must(CALL(office_send)(OFFICE, desk, next, 0, stamp, STAMP, &value, 1, NULL, 0));
+        must(CALL(office_receive)(OFFICE, next, value, keep, stamp, STAMP, &learnt, 1, &slot, 1));
     }
 }
 
@@ -88,7 +92,7 @@ static void post(size_t mails)
 {
     for (size_t turn = 0; turn < mails; turn++) {
         size_t desk = turn % DESKS, next = (desk + 1) % DESKS;
-        must(CALL(send)(book, BOOK, desk, next, 0, stamp, STAMP, &value, 1, NULL, 0));
+        must(CALL(office_send)(OFFICE, desk, next, 0, stamp, STAMP, &value, 1, NULL, 0));
     }
 }
 
@@ -114,7 +118,7 @@ static void full_with_picture(void)
 {
     full();
     for (size_t desk = 0; desk < DESKS; desk++)
-        must(CALL(drop)(book, BOOK, first_slots[desk]));
+        must(CALL(office_drop)(OFFICE, first_slots[desk]));
     keep_each_desk();
 }
 
@@ -184,6 +188,46 @@ static uint8_t discard(void)
     return CALL(discard)(book, BOOK, 0);
 }
 
+static uint8_t office_start(void)
+{
+    return CALL(office_start)(OFFICE, SETUP);
+}
+
+static uint8_t office_local(void)
+{
+    return CALL(office_local)(OFFICE, 0, 0, stamp, STAMP, NULL, 0);
+}
+
+static uint8_t office_local_kept(void)
+{
+    return CALL(office_local)(OFFICE, 0, 1, stamp, STAMP, &slot, 1);
+}
+
+static uint8_t office_send(void)
+{
+    return CALL(office_send)(OFFICE, 0, 1, 0, stamp, STAMP, &value, 1, NULL, 0);
+}
+
+static uint8_t office_receive(void)
+{
+    return CALL(office_receive)(OFFICE, 1, 0, 0, stamp, STAMP, &learnt, 1, NULL, 0);
+}
+
+static uint8_t office_reset(void)
+{
+    return CALL(office_reset)(OFFICE, 0, 0, stamp, STAMP, NULL, 0);
+}
+
+static uint8_t office_drop(void)
+{
+    return CALL(office_drop)(OFFICE, 0);
+}
+
+static uint8_t office_discard(void)
+{
+    return CALL(office_discard)(OFFICE, 0);
+}
+
 static uint8_t before(void)
 {
     return CALL(before)(book, BOOK, 0, 1, &value, 1);
@@ -224,13 +268,18 @@ static uint8_t label_newest(void)
     return CALL(label_newest)(SETUP, first_label, STAMP, second_label, STAMP, &value, 1);
 }
 
+static uint8_t may(void)
+{
+    return CALL(may)(SETUP, summary, SUMMARY, 0, &value, 1);
+}
+
 static uint8_t vectors(void)
 {
     value = vectors_compare(first_vector, second_vector);
     return 0;
 }
 
-/* Each call, and the least book on which it is accepted. */
+/* Each call, and the least book on which it is accepted; may has the summary of the full one. */
 static const struct entry { const char *name; void (*least)(void); uint8_t (*make)(void); } entries[] = {
     {"none", fresh, no_call},          {"sound", fresh, sound},
     {"start", fresh, start},
@@ -239,12 +288,21 @@ static const struct entry { const char *name; void (*least)(void); uint8_t (*mak
     {"receive", with_mail, receive},   {"receive_kept", with_mail, receive_kept},
     {"reset", fresh, reset},           {"reset_kept", fresh, reset_kept},
     {"drop", with_stamps, drop},       {"discard", with_mail, discard},
+    {"office_start", fresh, office_start},
+    {"office_local", fresh, office_local},
+    {"office_local_kept", fresh, office_local_kept},
+    {"office_send", fresh, office_send},
+    {"office_receive", with_mail, office_receive},
+    {"office_reset", fresh, office_reset},
+    {"office_drop", with_stamps, office_drop},
+    {"office_discard", with_mail, office_discard},
     {"before", with_stamps, before},   {"compare", with_stamps, compare},
     {"picture", with_picture, picture},
     {"show", with_stamps, show},       {"write", with_stamps, write_slot},
     {"label_before", with_stamps, label_before},
     {"label_compare", with_stamps, label_compare},
     {"label_newest", with_stamps, label_newest},
+    {"may", full, may},
     {"vectors", fresh, vectors}
 };
 
@@ -275,6 +333,7 @@ static void prepare(const struct entry *entry, const char *which)
     if (CALL(write)(book, BOOK, 0, first_label, STAMP) == 0)
         must(CALL(write)(book, BOOK, 1, second_label, STAMP));
     memcpy(prepared, book, BOOK);
+    memcpy(prepared_summary, summary, SUMMARY);
 }
 
 static unsigned long add_bytes(unsigned long sum, const uint8_t *bytes, size_t count)
@@ -287,6 +346,7 @@ static unsigned long add_bytes(unsigned long sum, const uint8_t *bytes, size_t c
 static unsigned long sum_of_bytes(void)
 {
     unsigned long sum = add_bytes(14695981039346656037ul, book, BOOK);
+    sum = add_bytes(sum, summary, SUMMARY);
     sum = add_bytes(sum, stamp, STAMP);
     sum = add_bytes(sum, row, ROW);
     sum = add_bytes(sum, odds, ODDS);
@@ -315,6 +375,7 @@ int main(int words, char **word)
     long times = atol(word[4]), began = nanoseconds();
     for (long i = 0; i < times; i++) {
         memcpy(book, prepared, BOOK);
+        memcpy(summary, prepared_summary, SUMMARY);
         answer = entry->make();
     }
     long took = nanoseconds() - began;

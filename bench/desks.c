@@ -9,7 +9,8 @@
  * 14 numbers. A start has six others: two before its limits, four after them. */
 enum { LINE_MOST = 64, BLOCK_BYTES = 4096, NUMBERS_MOST = 14, BESIDE_LIMITS = 6, BEFORE_LIMITS = 2 };
 
-enum verb { START, LOCAL, SEND, RECEIVE, RESET, DROP, DISCARD, ASK_BEFORE, COMPARE, PICTURE, VERBS };
+enum verb { START, LOCAL, SEND, RECEIVE, RESET, DROP, DISCARD, ASK_BEFORE, COMPARE, MAY, PICTURE,
+            VERBS };
 
 /* The bytes of each name, and the fewest and the most numbers that may follow it. */
 static const struct { const char *name; size_t length, fewest, most; } verbs[VERBS] = {
@@ -22,6 +23,7 @@ static const struct { const char *name; size_t length, fewest, most; } verbs[VER
     [DISCARD] = {"discard", 7, 1, 1},
     [ASK_BEFORE] = {"before", 6, 2, 2},
     [COMPARE] = {"compare", 7, 2, 2},
+    [MAY] = {"may", 3, 1, 1},
     [PICTURE] = {"picture", 7, 0, NUMBERS_MOST}
 };
 
@@ -30,12 +32,15 @@ static const char *const relation_words[] = {
     [CONCURRENT] = "concurrent", [CROSSED] = "crossed"
 };
 
+/* Every change is made with the summary beside the book. */
+#define OFFICE book, sizeof book, summary, sizeof summary
+
 struct call {
     enum verb verb;
     size_t numbers, number[NUMBERS_MOST];
 };
 
-static uint8_t book[BOOK_BYTES];
+static uint8_t book[BOOK_BYTES], summary[SUMMARY_BYTES];
 
 /* One byte over the limit is held, to tell a line of 64 bytes from a longer one. */
 static char line[LINE_MOST + 1];
@@ -157,8 +162,8 @@ static int read_call(const char *text, size_t bytes, struct call *call)
 static uint8_t make_start(const struct call *c)
 {
     const size_t *n = c->number, *limits = n + BEFORE_LIMITS, *after = limits + limits_in(c);
-    return plain_start(book, sizeof book, n[0], n[1], limits, limits_in(c), after[0], after[1],
-                       after[2], after[3]);
+    return plain_office_start(OFFICE, n[0], n[1], limits, limits_in(c), after[0], after[1], after[2],
+                              after[3]);
 }
 
 /* Verbs with nothing to print beside their answer. */
@@ -169,9 +174,9 @@ static uint8_t make_quiet_call(const struct call *c)
     case START:
         return make_start(c);
     case DROP:
-        return plain_drop(book, sizeof book, n[0]);
+        return plain_office_drop(OFFICE, n[0]);
     default:
-        return plain_discard(book, sizeof book, n[0]);
+        return plain_office_discard(OFFICE, n[0]);
     }
 }
 
@@ -181,14 +186,13 @@ static uint8_t make_event(const struct call *c, uint8_t *stamp, uint8_t *place, 
     const size_t *n = c->number;
     switch (c->verb) {
     case LOCAL:
-        return plain_local(book, sizeof book, n[0], n[1], stamp, STAMP_BYTES, slot, 1);
+        return plain_office_local(OFFICE, n[0], n[1], stamp, STAMP_BYTES, slot, 1);
     case SEND:
-        return plain_send(book, sizeof book, n[0], n[1], n[2], stamp, STAMP_BYTES, place, 1, slot, 1);
+        return plain_office_send(OFFICE, n[0], n[1], n[2], stamp, STAMP_BYTES, place, 1, slot, 1);
     case RECEIVE:
-        return plain_receive(book, sizeof book, n[0], n[1], n[2], stamp, STAMP_BYTES, learnt, 1,
-                             slot, 1);
+        return plain_office_receive(OFFICE, n[0], n[1], n[2], stamp, STAMP_BYTES, learnt, 1, slot, 1);
     default:
-        return plain_reset(book, sizeof book, n[0], n[1], stamp, STAMP_BYTES, slot, 1);
+        return plain_office_reset(OFFICE, n[0], n[1], stamp, STAMP_BYTES, slot, 1);
     }
 }
 
@@ -226,6 +230,28 @@ static void answer_compare(const struct call *c)
         put_word(relation_words[found]);
 }
 
+/* The setup that the header and the seats tell; the book is zeros or started, so of eight desks at most. */
+static uint8_t make_may(size_t desk, uint8_t *foretold)
+{
+    size_t desks = book[2], phases = book[3] ? book[3] : FULL_RING, limits[SEATS];
+    for (size_t other = 0; other < desks; other++)
+        limits[other] = book[SEATS_AT + RECORD_BYTES * other + LIMIT_AT];
+    return plain_may(desks, phases, limits, desks, book[5], book[6], book[7], book[8], summary,
+                     sizeof summary, desk, foretold, 1);
+}
+
+static void answer_may(const struct call *c)
+{
+    uint8_t foretold, answer = make_may(c->number[0], &foretold);
+    put_number(answer);
+    if (answer != DONE)
+        return;
+    if (foretold == DONE)
+        put_word("yes");
+    else
+        put_field(foretold);
+}
+
 static void answer_picture(const struct call *c)
 {
     uint8_t yes, odds[ODDS_BYTES];
@@ -253,6 +279,9 @@ static void answer_call(const struct call *c)
         break;
     case COMPARE:
         answer_compare(c);
+        break;
+    case MAY:
+        answer_may(c);
         break;
     case PICTURE:
         answer_picture(c);

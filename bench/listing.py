@@ -5,7 +5,8 @@
 
 The book is followed with phases that never come round, only so far as is needed
 to choose calls that mostly go through. Tides of filling and emptying bring full
-mail and a full shelf; about one line in forty is a BadLine.
+mail and a full shelf; before about half of the resets the line ahead asks whether
+the desk may; about one line in forty is a BadLine.
 """
 
 import random
@@ -51,6 +52,7 @@ BAD_LINES = [
     "start 002 003 050 001 002 001 001", "start 002 003 050 030 010 001 002 001 001",
     "drop 00x", "drop\t000", "compare 000 001" + 60 * " ", "x" * 64, "x" * 65,
     "before 000 001\r", "picture 000 1", "picture 000  001", "picture" + 15 * " 000",
+    "may", "may 0", "may 000 000",
 ]
 
 
@@ -62,6 +64,8 @@ class Book:
         self.rows = [[(0, 0)] * self.desks for _ in range(self.desks)]
         self.mail = {}
         self.shelf = {}
+        # The reset that the line before asked about, as a verb, its numbers and the wish to keep.
+        self.asked = None
 
     def phase_full(self, desk):
         return desk < self.desks and self.rows[desk][desk][1] == self.limits[desk] - 1
@@ -128,7 +132,7 @@ class Book:
     def before(self, *slots):
         """A question changes nothing."""
 
-    compare = picture = before
+    compare = picture = may = before
 
 
 def lowest_free(used):
@@ -214,6 +218,19 @@ def steered(choose, book, verb, numbers, keep):
     return verb, numbers, keep
 
 
+def any_call(choose, book, tide):
+    """A verb, its numbers and the wish to keep; half of the resets wait for a may."""
+    if book.asked:
+        call, book.asked = book.asked, None
+        return call
+    verb, keep = any_verb(choose, WEIGHTS[tide])
+    call = steered(choose, book, verb, any_numbers(choose, book, verb), keep)
+    if call[0] != "reset" or choose.random() < 0.5:
+        return call
+    book.asked = call
+    return "may", call[1], 0
+
+
 def in_text(verb, numbers):
     return " ".join([verb, *(f"{number:03}" for number in numbers)])
 
@@ -226,8 +243,7 @@ def start_line(setup):
 def one_line(choose, book, tide):
     if choose.random() < 0.025:
         return choose.choice(BAD_LINES)
-    verb, keep = any_verb(choose, WEIGHTS[tide])
-    verb, numbers, keep = steered(choose, book, verb, any_numbers(choose, book, verb), keep)
+    verb, numbers, keep = any_call(choose, book, tide)
     if verb in EVENTS:
         numbers = [*numbers, keep]
     getattr(book, verb)(*numbers)
