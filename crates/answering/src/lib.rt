@@ -1,4 +1,7 @@
 // One line is answered on the book and the papers beside it: what it asks for is done, and the answer is printed.
+
+#![tactic(auto)]
+
 ghost use Rattle.std.specs.Prelude.{◌≡◌, ◌+◌, ◌*◌, ◌≤◌, length};
 ghost use Rattle.tools.specs.Lists.{byte, tab};
 ghost use Rattle.rules.specs.Setups.{setup_with};

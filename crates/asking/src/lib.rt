@@ -1,4 +1,7 @@
 // What the calls that ask of a book tell where their slots are used: they leave it as it is.
+
+#![tactic(auto)]
+
 ghost use Rattle.std.specs.Prelude.{◌≡◌, true, false, length};
 ghost use Rattle.rules.specs.Model;
 ghost use Rattle.rules.specs.Model.{by_in, no_slot};

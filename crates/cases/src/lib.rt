@@ -1,1 +1,3 @@
 // The cases worked by hand: definitions and laws alone; no code.
+
+#![tactic(auto)]

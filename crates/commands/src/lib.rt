@@ -1,4 +1,7 @@
 // A line of the listing is read into a command: a verb, then numbers of exactly three digits, with single spaces.
+
+#![tactic(auto)]
+
 ghost use Rattle.std.specs.Prelude.{◌≡◌, ◌+◌, ◌*◌, ◌-◌, ◌≤◌, ◌<◌, ◌++◌, ltb, length, take};
 ghost use Rattle.tools.specs.Tests.{pick};
 ghost use Rattle.text.specs.Digits.{number_at, numbers_at};
@@ -11,7 +14,7 @@ use rules::SetupNumbers;
 
 // What a line asks for, an event last with whether its stamp is kept; of start its six numbers and how many limits there are, of picture
 // how many slots, which stay in the line. The numbers are wide, so that 256 reaches the check that refuses it.
-#[derive(Drop)]
+#[derive(Clone, Copy)]
 pub enum Command {
     Start(SetupNumbers, usize),
     Local(usize, bool),

@@ -1,4 +1,7 @@
 // The comparison of two stamps over plain numbers, the same on the book and off it, and whatever the limits of the setup.
+
+#![tactic(auto)]
+
 ghost use Rattle.std.specs.Prelude.{◌≡◌, List, ℕ, ◌≤◌};
 ghost use Rattle.std.proofs.Math.Option.{Option};
 ghost use Rattle.ring.specs.Phases.{Gap};
@@ -13,7 +16,7 @@ use rules::{Compared, Relation, SetupNumbers, Told};
 
 // One way of a comparison, from the stamp of an owner to the other stamp: the difference d at the owner's desk, up minus
 // down, and the clocks there.
-#[derive(Drop)]
+#[derive(Clone, Copy)]
 pub struct Way {
     pub up: u8,
     pub down: u8,

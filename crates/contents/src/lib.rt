@@ -1,4 +1,7 @@
 // Whether the contents of one record of a book are in order, whatever its mark.
+
+#![tactic(auto)]
+
 ghost use Rattle.std.specs.Prelude.{◌≡◌, true, [], ◌∷◌, ◌+◌, ◌<◌, ◌≤◌, leb, ltb, length};
 ghost use Rattle.ring.specs.Phases.{lag_of};
 ghost use Rattle.tools.specs.Tests.{pick, all_of, all_below};

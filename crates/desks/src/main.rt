@@ -1,4 +1,7 @@
 // Answers the lines of standard input on standard output, from a book of zeros and a summary of zeros on.
+
+#![tactic(auto)]
+
 ghost use Rattle.std.specs.Prelude.{◌≡◌, ◌≤◌, length, take};
 ghost use Rattle.io.specs.Counts.{clamp_len};
 ghost use Rattle.text.specs.Stream.{most, held, last_book};
@@ -17,7 +20,7 @@ use text::Pending;
 const TURNS: u64 = u64::MAX;
 
 // How many bytes of a text are not written, and what became of the run.
-#[derive(Drop)]
+#[derive(Clone, Copy)]
 struct Put {
     left: usize,
     went: Went,
@@ -25,7 +28,7 @@ struct Put {
 
 // What a piece leaves: the line that has begun, how many bytes of the piece are taken in, how many bytes of what they print are not
 // written, and what became of the run.
-#[derive(Drop)]
+#[derive(Clone, Copy)]
 struct Turn {
     pending: Pending,
     used: usize,

@@ -1,5 +1,8 @@
 // Answers for a caller in C: the call's number, and the bytes of a value in front of a lent buffer. A buffer too short for it is
 // NoRoom, and then nothing changes.
+
+#![tactic(auto)]
+
 ghost use Rattle.std.specs.Prelude.{◌≡◌, true, [], ◌∷◌, ◌≤◌, length, ltb};
 ghost use Rattle.tools.specs.Tests.{pick};
 ghost use Rattle.tools.specs.Lists.{listed};

@@ -1,10 +1,13 @@
 // The ends of the program, standard input and standard output: what becomes of the run at them, and what is said where one fails.
+
+#![tactic(auto)]
+
 ghost use Rattle.std.specs.Prelude.{◌≡◌, ◌≤◌, length};
 ghost use Rattle.text.specs.Put.{Wrote};
 ghost use Rattle.ends.specs.Ends.{failure_went, call_went, read_went, write_went, word_of};
 
 // What became of the run: it goes on; the input has ended; nobody reads the output any more; or an end has failed.
-#[derive(Drop)]
+#[derive(Clone, Copy)]
 pub enum Went {
     On,
     Ended,

@@ -1,4 +1,7 @@
 // A fresh book: the bytes that start writes, over whatever bytes were there.
+
+#![tactic(auto)]
+
 ghost use Rattle.std.specs.Prelude.{◌≡◌, true, List, [], ℕ, ◌≤◌, length};
 ghost use Rattle.tools.specs.Lists.{tab, Filled};
 ghost use Rattle.rules.specs.Setups.{setup_with, in_range, permits};

@@ -1,5 +1,8 @@
 // The C interface (docs/RULES.md): every call over byte slices and numbers. Each answers its number and writes its value into a
 // buffer that the caller lends; a buffer too short for it is NoRoom, and then nothing changes.
+
+#![tactic(auto)]
+
 ghost use Rattle.std.specs.Prelude.{◌≡◌, [], ◌∷◌, length};
 ghost use Rattle.rules.specs.Setups.{setup_with};
 ghost use Rattle.rules.specs.Model;

@@ -1,1 +1,3 @@
 // A run of calls and its history: definitions and laws alone; no code.
+
+#![tactic(auto)]

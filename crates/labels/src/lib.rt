@@ -1,4 +1,7 @@
 // Stamp records: twenty bytes that tell a stamp, read and written; before, compare and newest of two of them.
+
+#![tactic(auto)]
+
 ghost use Rattle.std.specs.Prelude.{◌≡◌, true, ℕ, ◌<◌, List, ltb, length};
 ghost use Rattle.tools.specs.Tests.{pick};
 ghost use Rattle.tools.specs.Lists.{byte};
@@ -22,14 +25,14 @@ const MARK0: u8 = 0x53;
 const MARK1: u8 = 0x54;
 
 // The owner of a stamp that was read, or the number of its refusal.
-#[derive(Drop)]
+#[derive(Clone, Copy)]
 pub enum Owner {
     Of(u8),
     Refused(u8),
 }
 
 // What reading a record answers: the owner or the refusal, and beside it the row, which is blank where the record is refused.
-#[derive(Drop)]
+#[derive(Clone, Copy)]
 pub struct Reading {
     pub who: Owner,
     pub row: [u8; 16],
@@ -202,7 +205,7 @@ fn way(setup: SetupNumbers, owner: u8, first: &[u8], second: &[u8]) -> Way
 }
 
 // The owners of two records, or the number of the refusal.
-#[derive(Drop)]
+#[derive(Clone, Copy)]
 enum Owners {
     Of { owner: u8, other: u8 },
     Refused(u8),

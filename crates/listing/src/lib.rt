@@ -1,4 +1,7 @@
 // The listing: lines out of a stream of bytes, each answered on the book and its papers at its newline, however the stream was cut.
+
+#![tactic(auto)]
+
 ghost use Rattle.std.specs.Prelude.{◌≡◌, ◌<◌, ◌≤◌, length};
 ghost use Rattle.text.specs.Put.{Wrote};
 ghost use Rattle.text.specs.Stream.{start, held, most, last_text, last_book};
@@ -13,7 +16,7 @@ use text::Pending;
 pub const ROOM: usize = replies::LONGEST;
 
 // What a feed has done: the line that has begun, how many bytes of the piece are taken in, and where the written text ends.
-#[derive(Drop)]
+#[derive(Clone, Copy)]
 pub struct Fed {
     pub pending: Pending,
     pub used: usize,

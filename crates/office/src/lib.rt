@@ -1,6 +1,9 @@
 // The office: start and every change, made with the book and the papers beside it. Each asks the book's reasons first, then the
 // papers'; accepted, it leaves every paper right of the book. A further paper is a further buffer of each call, a reason in
 // papers_number and a line in file.
+
+#![tactic(auto)]
+
 ghost use Rattle.std.specs.Prelude.{◌≡◌, true, length};
 ghost use Rattle.tools.specs.Reasons.{first, if_done};
 ghost use Rattle.rules.specs.Setups.{setup_with};

@@ -1,4 +1,7 @@
 // The numbers of a book in its bytes, where each stands, its marks, one record written, and a lent buffer filled.
+
+#![tactic(auto)]
+
 ghost use Rattle.std.specs.Prelude.{◌≡◌, ◌+◌, ◌<◌, ◌≤◌, length};
 ghost use Rattle.tools.specs.Lists.{byte};
 ghost use Rattle.rules.specs.Setups.{setup_with};

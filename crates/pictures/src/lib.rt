@@ -1,5 +1,8 @@
 // Whether the stamps of a list of slots, one for each desk, make a picture of all desks: what every way from one of them asks is fetched
 // once, then every two are looked at, both ways.
+
+#![tactic(auto)]
+
 ghost use Rattle.std.specs.Prelude.{◌≡◌, true, false, not, ◌||◌, ◌+◌, ◌-◌, ◌≤◌, ◌<◌, eqb, length};
 ghost use Rattle.tools.specs.Tests.{pick, any};
 ghost use Rattle.tools.specs.Lists.{byte};
@@ -20,7 +23,7 @@ use rules::{Pictured, SetupNumbers};
 
 // What all ways from one stamp share: its owner, the owner's phase, how far its own pair lags and the clock there, and the least and the
 // largest lag of another stamp's pair that is within reach.
-#[derive(Drop)]
+#[derive(Clone, Copy)]
 pub struct From {
     pub owner: u8,
     pub own: u8,
@@ -32,7 +35,7 @@ pub struct From {
 
 // What a desk's stamp and those of higher desks show: whether one is out of reach, and else the lowest desk that it is at odds with,
 // their number where there is none.
-#[derive(Drop)]
+#[derive(Clone, Copy)]
 pub struct Row {
     pub out: bool,
     pub odd: usize,
@@ -40,7 +43,7 @@ pub struct Row {
 
 // What all stamps show: whether two are out of reach, and else the lowest desk that is at odds with a higher one, their number where
 // there is none, and the lowest of these.
-#[derive(Drop)]
+#[derive(Clone, Copy)]
 pub struct Found {
     pub out: bool,
     pub lower: usize,

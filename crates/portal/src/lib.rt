@@ -1,4 +1,7 @@
 // The calls on a book: each answers what the rules say, on any bytes, and leaves every byte that they say.
+
+#![tactic(auto)]
+
 ghost use Rattle.std.specs.Prelude.{◌≡◌, ◌<◌, ◌≤◌, length};
 ghost use Rattle.rules.specs.Setups.{setup_with};
 ghost use Rattle.rules.specs.Model;

@@ -1,5 +1,8 @@
 // The reasons of the answer table, each a test of a sound book named after it: which call asks which of them, and in what order, is
 // for the crate refusals to say.
+
+#![tactic(auto)]
+
 ghost use Rattle.std.specs.Prelude.{◌≡◌, true, not, ◌*◌, ◌<◌, ◌≤◌, ltb, eqb, length};
 ghost use Rattle.rules.specs.Model;
 ghost use Rattle.rules.specs.Model.{no_desk, at_limit, to_in};

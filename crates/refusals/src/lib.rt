@@ -1,5 +1,8 @@
 // The number that each call is answered before anything is changed: BadBook first, then its reasons in ascending order. To an event
 // goes with it the slot that its stamp is kept in, so that the shelf is looked through once. And what a refused event answers.
+
+#![tactic(auto)]
+
 ghost use Rattle.std.specs.Prelude.{◌≡◌, ◌<◌, ◌≤◌, length};
 ghost use Rattle.tools.specs.Tests.{any};
 ghost use Rattle.rules.specs.Setups.{setup_with};
@@ -18,7 +21,7 @@ ghost use Rattle.refusals.specs.Grants.{granted, shelf_grant, grant_of};
 use rules::{Kept, Posted, Received, Sent, SetupNumbers, Stamp, Stamped};
 
 // What an event is granted: its number, and where that is 0 the slot for its stamp; 32, which is none, where it is not kept.
-#[derive(Drop)]
+#[derive(Clone, Copy)]
 pub struct Grant {
     pub number: u8,
     pub slot: usize,

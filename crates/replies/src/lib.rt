@@ -1,5 +1,8 @@
 // Answers as lines of text, each written into a lent buffer from a place on. A line with no pairs is the same in a book of any
 // number of desks.
+
+#![tactic(auto)]
+
 ghost use Rattle.std.specs.Prelude.{ℕ, ◌+◌, ◌≤◌, [], length};
 ghost use Rattle.text.specs.Put.{Wrote, field};
 ghost use Rattle.rules.specs.Model.{refusal, accepted, relates, names, foretells};

@@ -1,4 +1,7 @@
 // A row of a book as an array, and a desk's new row after each event: functions of the bytes that change none.
+
+#![tactic(auto)]
+
 ghost use Rattle.std.specs.Prelude.{◌≡◌, true, ◌<◌, length};
 ghost use Rattle.rules.specs.Model.{tick};
 ghost use Rattle.rules.specs.Replies.{row_bytes};
@@ -82,7 +85,7 @@ fn taken_at(book: &[u8], held: usize, mailed: usize, desk: usize) -> Taken
 }
 
 // A row merged from two, and how many pairs of other desks than the receiver changed.
-#[derive(Drop)]
+#[derive(Clone, Copy)]
 pub struct Merged {
     pub row: [u8; 16],
     pub learnt: u8,

@@ -1,5 +1,7 @@
 // The plain types of the rules, and the answer numbers.
 
+#![tactic(auto)]
+
 // The answer table, by number. 0 is done.
 pub const DONE: u8 = 0;
 
@@ -43,7 +45,7 @@ pub const WRONG_OWNER: u8 = 18;
 pub const BAD_SUMMARY: u8 = 21;
 
 // The setup numbers D, P, M, A, m and n, wide enough for any number that comes in. The desks' limits are lent beside them, as a list.
-#[derive(Drop)]
+#[derive(Clone, Copy)]
 pub struct SetupNumbers {
     pub desks: usize,
     pub phases: usize,
@@ -54,21 +56,21 @@ pub struct SetupNumbers {
 }
 
 // The owner of an event and its row, held together.
-#[derive(Drop)]
+#[derive(Clone, Copy)]
 pub struct Stamp {
     pub owner: u8,
     pub row: [u8; 16],
 }
 
 // The slot of an event's stamp, where it is kept.
-#[derive(Drop)]
+#[derive(Clone, Copy)]
 pub enum Kept {
     No,
     In(u8),
 }
 
 // What local and reset answer: the number, and beside it the stamp and its slot, blank and none where the event is refused.
-#[derive(Drop)]
+#[derive(Clone, Copy)]
 pub struct Stamped {
     pub number: u8,
     pub stamp: Stamp,
@@ -76,7 +78,7 @@ pub struct Stamped {
 }
 
 // What receive answers: the same, and how many other desks it told of something, 0 where it is refused.
-#[derive(Drop)]
+#[derive(Clone, Copy)]
 pub struct Received {
     pub number: u8,
     pub stamp: Stamp,
@@ -85,14 +87,14 @@ pub struct Received {
 }
 
 // The mail place of a send, or the number of its refusal.
-#[derive(Drop)]
+#[derive(Clone, Copy)]
 pub enum Posted {
     At(u8),
     Refused(u8),
 }
 
 // What send answers: the place, and beside it the stamp and its slot, blank and none where the send is refused.
-#[derive(Drop)]
+#[derive(Clone, Copy)]
 pub struct Sent {
     pub place: Posted,
     pub stamp: Stamp,
@@ -100,7 +102,7 @@ pub struct Sent {
 }
 
 // What before answers.
-#[derive(Drop)]
+#[derive(Clone, Copy)]
 pub enum Told {
     Yes,
     No,
@@ -108,7 +110,7 @@ pub enum Told {
 }
 
 // How the first of two stamps stands to the second.
-#[derive(Drop)]
+#[derive(Clone, Copy)]
 pub enum Relation {
     Before,
     After,
@@ -118,14 +120,14 @@ pub enum Relation {
 }
 
 // What compare answers.
-#[derive(Drop)]
+#[derive(Clone, Copy)]
 pub enum Compared {
     Is(Relation),
     Refused(u8),
 }
 
 // What picture answers: yes, or two desks at odds, the lower one first.
-#[derive(Drop)]
+#[derive(Clone, Copy)]
 pub enum Pictured {
     Yes,
     Odds(u8, u8),
@@ -133,7 +135,7 @@ pub enum Pictured {
 }
 
 // What may answers: the number that a reset would be answered, 0 for yes.
-#[derive(Drop)]
+#[derive(Clone, Copy)]
 pub enum Foretold {
     Is(u8),
     Refused(u8),

@@ -1,4 +1,7 @@
 // Whether a setup is permitted: its numbers, and its desks' limits.
+
+#![tactic(auto)]
+
 ghost use Rattle.std.specs.Prelude.{◌≡◌, ◌&&◌, [], ◌≤◌};
 ghost use Rattle.rules.specs.Setups;
 ghost use Rattle.setups.specs.Bounds;

@@ -1,4 +1,7 @@
 // Whether the bytes of a book are sound.
+
+#![tactic(auto)]
+
 ghost use Rattle.std.specs.Prelude.{◌≡◌, ◌<◌, ◌≤◌, length};
 ghost use Rattle.ring.specs.Phases.{lag_of};
 ghost use Rattle.tools.specs.Tests.{all_below};

@@ -25,7 +25,7 @@ use Rattle.book.specs.Sound.{sound}
 use Rattle.book.proofs.Below.{phase_below}
 use Rattle.book.proofs.Told.{own_at, read_at}
 use Rattle.reasons.specs.Held.{lag_in}
-use Rattle.summary.specs.Lanes.{Lanes, own_at, place_lag, held_most, Both}
+use Rattle.summary.specs.Lanes.{Lanes, own_phase_at, place_lag, held_most, Both}
 
 pub lanes_none : (f : ℕ → ℕ) (l : List ℕ) → length l ≡ 16 → Lanes 0 f l
 lanes_none f l e = record { size = e; at = λ j m. absurd (not-suc-le-zero m) }
@@ -92,11 +92,11 @@ pub lanes_zero : Lanes 8 (λ j. 0) (replicate 16 0)
 lanes_zero = record { size = length-replicate {A = ℕ} 16 0; at = λ j m. zero_at 16 (phase_spot j) }
 
 -- the lag in a lane of a row of a sound book
-pub lane_lag : (s : List ℕ) → sound s ≡ true → (own : List ℕ) → Lanes 8 (own_at s) own → (k j c : ℕ) → k < 72 → j < 8 → c ≡ phase_spot j
+pub lane_lag : (s : List ℕ) → sound s ≡ true → (own : List ℕ) → Lanes 8 (own_phase_at s) own → (k j c : ℕ) → k < 72 → j < 8 → c ≡ phase_spot j
     → (o v last r : ℕ) → o ≡ byte own c → v ≡ byte s (spot k (4 + c)) → last + 1 ≡ (setup_of s).phases
     → (v ≤ last → r ≡ lag_of (last + 1) o v) → r ≡ lag_in s j k
 lane_lag s h own w k j c lk lj ec o v last r eo ev el er =
-    let x : o ≡ own_at s j = eo ∙ ap (byte own) ec ∙ w.at j lj in
+    let x : o ≡ own_phase_at s j = eo ∙ ap (byte own) ec ∙ w.at j lj in
     let y : v ≡ (row_at s k j).phase = ev ∙ ap (λ c. byte s (spot k (4 + c))) ec in
     let on = phase_below s h k j lk lj in
     lag_by_last (setup_of s).phases last o v r el (omega (arith, y, on)) er ∙ (λ i. lag_of (setup_of s).phases (x i) (y i))

@@ -2,7 +2,7 @@
 -- between them tells nothing.
 -- Assumes nothing.
 --   Lanes n f l      the sixteen bytes l have f j at the place of the phase of each desk j below n
---   field_own s j        the own phase of desk j in the bytes s
+--   own_phase_at s j   the own phase of desk j in the bytes s
 --   seats_most s j    the largest lag of desk j's entry in the seats of all desks of the bytes s
 --   place_lag s a j p how far desk j's entry lags in the p-th of the places or slots from record a on; 0 where it is free
 --   held_most s a j   the largest lag of desk j's entry in the 32 places or slots from record a on
@@ -21,8 +21,8 @@ pub record Lanes (n : ℕ) (f : ℕ → ℕ) (l : List ℕ) : Type 0 where
   pub size : length l ≡ row_size
   pub at : (j : ℕ) → j < n → byte l (phase_spot j) ≡ f j
 
-abbrev pub field_own : List ℕ → ℕ → ℕ
-field_own s j = (row_at s j j).phase
+abbrev pub own_phase_at : List ℕ → ℕ → ℕ
+own_phase_at s j = (row_at s j j).phase
 
 abbrev pub seats_most : List ℕ → ℕ → ℕ
 seats_most s j = largest (setup_of s).desks (lag_in s j)

@@ -1,4 +1,7 @@
 // The summary of a sound book, written beside it, and whether a desk may reset, asked of a summary without the book.
+
+#![tactic(auto)]
+
 ghost use Rattle.std.specs.Prelude.{◌≡◌, true, [], ◌∷◌, ◌+◌, ◌*◌, ◌<◌, ◌≤◌, leb, length, take, drop};
 ghost use Rattle.tools.specs.Tests;
 ghost use Rattle.tools.specs.Tests.{all_of, all_below};
@@ -12,7 +15,7 @@ ghost use Rattle.book.specs.Codec.{decode};
 ghost use Rattle.reasons.specs.Held.{lag_in};
 ghost use Rattle.summary.specs.Summary.{summary_size, lags_at, lags_in, level, summary_with, summary_of};
 ghost use Rattle.summary.specs.May.{summary_ok, reset_number, may_of};
-ghost use Rattle.summary.specs.Lanes.{Lanes, own_at, seats_most, place_lag, held_most, Both, lags_by};
+ghost use Rattle.summary.specs.Lanes.{Lanes, own_phase_at, seats_most, place_lag, held_most, Both, lags_by};
 
 use rules::{Foretold, SetupNumbers};
 
@@ -34,7 +37,7 @@ fn lags_at(desk: usize) -> usize
 // Each desk's own pair, as a row has them.
 fn own_row(book: &[u8]) -> [u8; 16]
     requires { sound book.now ≡ true }
-    ensures { Lanes seats (own_at book.now) result }
+    ensures { Lanes seats (own_phase_at book.now) result }
 {
     let mut own = [0u8; 16];
     let mut j: usize = 0;
@@ -49,7 +52,7 @@ fn own_row(book: &[u8]) -> [u8; 16]
 // The larger of the lags so far and those in a row. Its clocks go along and tell nothing: so sixteen bytes are taken at once.
 fn row_lags(book: &[u8], own: &[u8; 16], k: usize, lags: &mut [u8])
     requires book_value { sound book.now ≡ true }
-    requires lanes { Lanes seats (own_at book.now) own.now × (k < records) × (length lags.old ≡ row_size) }
+    requires lanes { Lanes seats (own_phase_at book.now) own.now × (k < records) × (length lags.old ≡ row_size) }
     ensures { Lanes seats (λ j. Tests.larger (byte lags.old (phase_spot j)) (lag_in book.now j k))
         lags.new }
 {
@@ -65,7 +68,7 @@ fn row_lags(book: &[u8], own: &[u8; 16], k: usize, lags: &mut [u8])
 // In the seats of all desks. In its own seat a desk's phase does not lag, so that none has to be left out.
 fn seats_lags(book: &[u8], own: &[u8; 16], lags: &mut [u8])
     requires book_value { sound book.now ≡ true }
-    requires lanes { Lanes seats (own_at book.now) own.now × Lanes seats (λ j. 0) lags.old }
+    requires lanes { Lanes seats (own_phase_at book.now) own.now × Lanes seats (λ j. 0) lags.old }
     ensures { Lanes seats (seats_most book.now) lags.new }
 {
     let d = parts::desks_of(book);
@@ -79,7 +82,7 @@ fn seats_lags(book: &[u8], own: &[u8; 16], lags: &mut [u8])
 // In a place or slot, counted from the record first on; a free one lags nowhere.
 fn place_lags(book: &[u8], own: &[u8; 16], first: usize, place: usize, lags: &mut [u8])
     requires book_value { sound book.now ≡ true }
-    requires lanes { Lanes seats (own_at book.now) own.now × (first ≤ shelf_from) × (place < places) × (length lags.old ≡ row_size) }
+    requires lanes { Lanes seats (own_phase_at book.now) own.now × (first ≤ shelf_from) × (place < places) × (length lags.old ≡ row_size) }
     ensures { Lanes seats (λ j. Tests.larger (byte lags.old (phase_spot j)) (place_lag book.now first j place))
         lags.new }
 {
@@ -92,7 +95,7 @@ fn place_lags(book: &[u8], own: &[u8; 16], first: usize, place: usize, lags: &mu
 // In 32 places or slots, from the record first on.
 fn held_lags(book: &[u8], own: &[u8; 16], first: usize, lags: &mut [u8])
     requires book_value { sound book.now ≡ true }
-    requires lanes { Lanes seats (own_at book.now) own.now × (first ≤ shelf_from) × Lanes seats (λ j. 0) lags.old }
+    requires lanes { Lanes seats (own_phase_at book.now) own.now × (first ≤ shelf_from) × Lanes seats (λ j. 0) lags.old }
     ensures { Lanes seats (held_most book.now first) lags.new }
 {
     let mut p: usize = 0;
@@ -105,7 +108,7 @@ fn held_lags(book: &[u8], own: &[u8; 16], first: usize, lags: &mut [u8])
 // In the mail, then in the slots: by one loop, so that the lags stay in memory, sixteen bytes side by side.
 fn both_lags(book: &[u8], own: &[u8; 16]) -> [u8; 32]
     requires book_value { sound book.now ≡ true }
-    requires lanes { Lanes seats (own_at book.now) own.now }
+    requires lanes { Lanes seats (own_phase_at book.now) own.now }
     ensures { Both book.now result }
 {
     let mut lags = [0u8; 32];

@@ -1,4 +1,7 @@
 // Bytes in lent slices: words, numbers and lines are found among them, or are written from a place on.
+
+#![tactic(auto)]
+
 ghost use Rattle.std.specs.Prelude.{◌≡◌, [], ◌∷◌, ◌++◌, ◌+◌, ◌*◌, ◌-◌, ◌<◌, ◌≤◌, length, take};
 ghost use Rattle.tools.specs.Tests.{all_below};
 ghost use Rattle.text.specs.Words.{opens};
@@ -10,7 +13,7 @@ ghost use Rattle.text.specs.Stream.{Ends, most, line_of};
 pub const LINE_MOST: usize = 64;
 
 // The bytes of a line that has begun; of a line over 64 bytes the first 65.
-#[derive(Drop)]
+#[derive(Clone, Copy)]
 pub struct Pending {
     pub line: [u8; 65],
     pub count: usize,

@@ -1,0 +1,38 @@
+use Prim.Native.Nat.{ℕ}
+use mathlib.Core.Path.{refl, sym, ◌∙◌}
+use mathlib.Core.List.{List, ◌++◌}
+use Rattle.tools.specs.Lists.{tab}
+use Rattle.commands.specs.Lines.{questions, lists}
+use Rattle.commands.proofs.Shapes.{Past, chosen, passed, may_asked}
+use Rattle.commands.proofs.parse_questions.Goals as goal
+
+pub returns-then-is_line : goal.returns-then-is_line
+unfolding tab
+returns-then-is_line c =
+    rw (c.number.ensures, c.number-then-is_line.ensures)
+    (sym (chosen _ _ _ _ c.is_line.ensures refl c.if-is_line.true))
+
+pub returns-then-is_line-2 : goal.returns-then-is_line-2
+unfolding tab
+returns-then-is_line-2 c =
+    let line : List ℕ = c.args.line.now in
+    let past_1 : Past (questions ++ lists) 1 line = passed _ _ _ _ c.is_line.ensures refl c.if-is_line.false in
+    rw (c.number-then-is_line-2.ensures, c.number-then-is_line-2-2.ensures)
+    (sym (past_1 ∙ chosen _ _ _ _ c.is_line-2.ensures refl c.if-is_line-2.true))
+
+pub returns-then-is_line-3 : goal.returns-then-is_line-3
+unfolding tab
+returns-then-is_line-3 c =
+    let line : List ℕ = c.args.line.now in
+    let past_1 : Past (questions ++ lists) 1 line = passed _ _ _ _ c.is_line.ensures refl c.if-is_line.false in
+    let past_2 : Past (questions ++ lists) 2 line = past_1 ∙ passed _ _ _ _ c.is_line-2.ensures refl c.if-is_line-2.false in
+    may_asked line _ _ _ c.number-then-is_line-3.ensures
+    (past_2 ∙ chosen _ _ _ _ c.is_line-3.ensures refl c.if-is_line-3.true)
+
+pub returns : goal.returns
+returns c =
+    let line : List ℕ = c.args.line.now in
+    let past_1 : Past (questions ++ lists) 1 line = passed _ _ _ _ c.is_line.ensures refl c.if-is_line.false in
+    let past_2 : Past (questions ++ lists) 2 line = past_1 ∙ passed _ _ _ _ c.is_line-2.ensures refl c.if-is_line-2.false in
+    let past_3 : Past (questions ++ lists) 3 line = past_2 ∙ passed _ _ _ _ c.is_line-3.ensures refl c.if-is_line-3.false in
+    c.parse_lists.ensures ∙ sym past_3

@@ -1,0 +1,31 @@
+use mathlib.Core.Path.{◌≡◌, refl, ap, ◌∙◌}
+use Rattle.rules.specs.Model.{Act, discard, Answer, refusal}
+use Rattle.rules.specs.Calls.{on}
+use Rattle.book.specs.Answers.{answer_to}
+use Rattle.office.proofs.Filed.{due_ready, filed, unready, discard_number, left_sound}
+use Rattle.office.proofs.discard.Goals as goal
+
+pub returns-then-due-ne-DONE : goal.returns-then-due-ne-DONE
+returns-then-due-ne-DONE c =
+    let made : Act = discard c.args.place in
+    let x = c.args in
+    let u =
+    unready x.book.now x.summary.now (on made) refl c.papers-number.result c.papers-number.ensures c.if1.true
+    c.used_number.result (c.used_number.ensures ∙ discard_number x.book.now x.place) c.first_number.result
+    c.first_number.ensures in record { result_value = u.0; summary_after = u.1 }
+
+pub file-requires : goal.file-requires
+file-requires c =
+    let made : Act = discard c.args.place in
+    let number : c.discard-n.result ≡ (answer_to c.args.book.now (on made)).number = ap (λ (a : Answer). a.number) c.discard-n.ensures.result_value in
+    let x = c.args in (
+      due_ready x.summary.now _ c.papers-number.ensures c.if1.false,
+      left_sound x.book.now (on made) _ number _ c.discard.ensures.1,
+    )
+
+pub returns : goal.returns
+returns c =
+    let made : Act = discard c.args.place in
+    let x = c.args in
+    filed x.book.now x.summary.now (on made) refl c.papers-number.result c.papers-number.ensures c.if1.false
+    (refusal c.discard.result) c.discard.ensures.0 c.discard.result refl _ _ c.discard.ensures.1 c.file.ensures

@@ -1,0 +1,4 @@
+use Rattle.refusals.proofs.receive_refused.Goals as goal
+
+pub returns : goal.returns
+returns c = cc
