@@ -1,7 +1,7 @@
 -- What is due first stays due, and where nothing is the book is sound.
 -- Assumes nothing.
 use Prim.Native.Nat.{ℕ, suc}
-use mathlib.Core.Path.{◌≡◌, refl}
+use mathlib.Core.Path.{◌≡◌, refl, sym, ◌∙◌}
 use mathlib.Core.Bool.{Bool, true, false}
 use mathlib.Core.List.{List}
 use native.Mathlib.Omega.{arith}
@@ -46,3 +46,7 @@ pub seated : (s : List ℕ) (j : ℕ) → desk_number s j ≡ 0 → Seated s j
 seated s j e =
     let q = asked_clear s (no_desk (setup_of s) j) 2 e in
     record { whole = q.0; desk = q.1; at = desk_there s j q.0 q.1 }
+
+-- where a call's first question found nothing, the book is sound, and has the desk
+pub there : (s : List ℕ) (j n : ℕ) → n ≡ desk_number s j → n ≡ 0 → Seated s j
+there s j n e z = seated s j (sym e ∙ z)

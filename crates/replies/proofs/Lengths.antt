@@ -2,15 +2,22 @@
 -- Assumes nothing.
 --   pairs_length   a pair has eight bytes
 --   slot_length    a slot has at most four
-use Prim.Native.Nat.{ℕ, zero, suc, ◌*◌, ◌≤◌}
+--   few_desks      an accepted event is one of a book of at most eight desks
+--   stamp_room     in such a book there is room behind a stamp for what is left when it takes 68 bytes
+use Prim.Native.Nat.{ℕ, zero, suc, ◌+◌, ◌*◌, ◌≤◌}
 use mathlib.Core.Path.{◌≡◌, refl}
-use mathlib.Core.List.{[]}
+use mathlib.Core.List.{List, []}
 use mathlib.Core.Option.{Option, none, some}
 use native.Mathlib.Omega.{arith}
 use lib.ListN.{length, length-append}
-use Rattle.text.specs.Put.{field}
+use borrow.Author.Tests.{eq-eqb}
+use Rattle.text.specs.Put.{field, Wrote}
+use Rattle.text.proofs.Writing.{wrote_length}
 use Rattle.rules.specs.Model.{Row}
-use Rattle.replies.specs.Print.{pairs, then}
+use Rattle.rules.specs.Replies.{event_says}
+use Rattle.rules.specs.declared.Kept.{Kept}
+use Rattle.rules.specs.declared.Stamp.{Stamp}
+use Rattle.replies.specs.Print.{pairs, stamp_text, then, Printable}
 
 pub pairs_length : (n : ℕ) (r : Row) → length (pairs n r) ≡ 8 * n
 unfolding pairs
@@ -20,3 +27,15 @@ pairs_length (suc n) r = simp length-append (omega (arith, pairs_length n r))
 pub slot_length : (o : Option ℕ) → length (then [] field o) ≤ 4
 slot_length none = omega arith
 slot_length (some s) = omega arith
+
+pub few_desks : (D n : ℕ) (s : Stamp) (l : Option ℕ) (k : Kept) → Printable D (event_says n s l k) → n ≡ 0 → D ≤ 8
+unfolding event_says
+few_desks D n s l k p e = p (rw (event_says, eq-eqb _ _ e))
+
+pub stamp_room
+    : {xs ys : List ℕ} {at n : ℕ} (D o k : ℕ) (r : Row)
+    → Wrote xs at (stamp_text D o r) ys n
+    → D ≤ 8
+    → at + 68 + k ≤ length xs
+    → n + k ≤ length ys
+stamp_room D o k r w few fit = omega (arith, wrote_length w, pairs_length D r)

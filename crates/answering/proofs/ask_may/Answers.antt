@@ -20,6 +20,10 @@ returns-then-d-gt-SEATS c =
 
 pub returns : goal.returns
 returns c =
-    let limits : (let d = c.desks_of-d.result in take (d - 0) c.limits_of-limits.result ≡ limits_of c.args.book.now) = let b = c.args.book.now in let e : c.desks_of-d.result - 0 ≡ byte b 2 = omega (arith, c.desks_of-d.ensures) in
+    let given : Folder = folder c.args.book.now c.args.summary.now in
+    -- the limits that are lent are those of the first D seats
+    let limits : (let d = c.desks_of-d.result in take (d - 0) c.limits_of-limits.result ≡ limits_of c.args.book.now) =
+    let b = c.args.book.now in
+    let e : c.desks_of-d.result - 0 ≡ byte b 2 = omega (arith, c.desks_of-d.ensures) in
     λ i. take (e i) (c.limits_of-limits.ensures i) in
-    let s = c.before in told_may (given s) s.args.desk c.if1.false c.Numbers-of.result _ c.Numbers-of.ensures limits _ c.may.ensures
+    told_may given c.args.desk c.if-book-ne-BOOK_BYTES.false c.numbers_of.result _ c.numbers_of.ensures limits _ c.may.ensures

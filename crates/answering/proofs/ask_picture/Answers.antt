@@ -9,6 +9,7 @@ use Rattle.answering.proofs.ask_picture.Goals as goal
 
 pub returns : goal.returns
 returns c =
-    let a = c.before.args in let e : a.count - 0 ≡ a.count = omega arith in
+    let a = c.args in
+    let e : a.count - 0 ≡ a.count = omega arith in
     c.picture.ensures
-    ∙ ap (λ l. answer_to a.book.now (on (picture l))) (ap (λ n. take n c.slots-of.result) e ∙ c.slots-of.ensures.1)
+    ∙ ap (λ l. answer_to a.book.now (on (picture l))) (ap (λ n. take n c.slots_of-slots.result) e ∙ c.slots_of-slots.ensures.1)

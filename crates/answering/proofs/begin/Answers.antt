@@ -9,6 +9,11 @@ use Rattle.answering.proofs.begin.Goals as goal
 
 pub returns : goal.returns
 returns c =
-    let a = c.before.args in let e : a.count - 0 ≡ a.count = omega arith in
-    let q = ap (λ n. take n c.Limits-of.result) e ∙ c.Limits-of.ensures.1 in
-    let f = folder a.book.now a.summary.now in record { result_value = c.start.ensures.result_value ∙ ap (λ l. office_answer f (start (setup_with a.s l))) q; summary_after = c.start.ensures.summary_after ∙ ap (λ l. folder_after f (start (setup_with a.s l))) q }
+    let a = c.args in
+    let e : a.count - 0 ≡ a.count = omega arith in
+    let q = ap (λ n. take n c.limits_of-limits.result) e ∙ c.limits_of-limits.ensures.1 in
+    let f = folder a.book.now a.summary.now in
+    record {
+      result_value = c.start.ensures.result_value ∙ ap (λ l. office_answer f (start (setup_with a.s l))) q;
+      summary_after = c.start.ensures.summary_after ∙ ap (λ l. folder_after f (start (setup_with a.s l))) q;
+    }

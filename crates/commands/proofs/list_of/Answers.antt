@@ -3,7 +3,6 @@ use lib.ListN.{length, take}
 use lib.Seq.{length-take-le, get_or-take}
 use native.Mathlib.Omega.{arith}
 use mathlib.Core.Path.{◌≡◌, refl, ◌∙◌}
-use Prim.Native.Nat.{◌-◌}
 use Rattle.commands.proofs.list_of.Goals as goal
 
 pub loop-i-init : goal.loop-i-init

@@ -1,11 +1,20 @@
+use native.Mathlib.Omega.{arith}
 use Prim.Native.Nat.{ℕ}
 use mathlib.Core.Path.{refl, sym, ◌∙◌}
 use mathlib.Core.List.{List, ◌++◌}
 use Rattle.tools.specs.Lists.{tab}
 use Rattle.rules.specs.Model.{local, send, receive, reset}
 use Rattle.commands.specs.Lines.{events, filings, questions, lists}
-use Rattle.commands.proofs.Shapes.{Past, chosen, passed, wished_call}
+use Rattle.commands.proofs.Shapes.{Past, fits, chosen, passed, wished_call}
 use Rattle.commands.proofs.parse_events.Goals as goal
+
+pub number-keep-requires : goal.number-keep-requires
+number-keep-requires c =
+    (omega arith, fits _ _ _ _ c.is_line.ensures c.if-is_line.true (omega arith))
+
+pub number-requires : goal.number-requires
+number-requires c =
+    (omega arith, fits _ _ _ _ c.is_line.ensures c.if-is_line.true (omega arith))
 
 pub returns-then-is_line : goal.returns-then-is_line
 unfolding tab
@@ -13,6 +22,18 @@ returns-then-is_line c =
     wished_call _ c.number-keep.result (local c.number.result) _ _ c.wished.ensures refl
     ∙ rw (c.number-keep.ensures, c.number.ensures)
     (sym (chosen _ _ _ _ c.is_line.ensures refl c.if-is_line.true))
+
+pub number-keep-requires-then-is_line-2 : goal.number-keep-requires-then-is_line-2
+number-keep-requires-then-is_line-2 c =
+    (omega arith, fits _ _ _ _ c.is_line-else-is_line.ensures c.if-is_line-2.true (omega arith))
+
+pub number-requires-then-is_line-2 : goal.number-requires-then-is_line-2
+number-requires-then-is_line-2 c =
+    (omega arith, fits _ _ _ _ c.is_line-else-is_line.ensures c.if-is_line-2.true (omega arith))
+
+pub number-requires-then-is_line-2-2 : goal.number-requires-then-is_line-2-2
+number-requires-then-is_line-2-2 c =
+    (omega arith, fits _ _ _ _ c.is_line-else-is_line.ensures c.if-is_line-2.true (omega arith))
 
 pub returns-then-is_line-2 : goal.returns-then-is_line-2
 unfolding tab
@@ -24,6 +45,18 @@ returns-then-is_line-2 c =
     ∙ rw (c.number-keep-then-is_line-2.ensures, c.number-then-is_line-2.ensures, c.number-then-is_line-2-2.ensures)
     (sym (past_1 ∙ chosen _ _ _ _ c.is_line-else-is_line.ensures refl c.if-is_line-2.true))
 
+pub number-keep-requires-then-is_line-3 : goal.number-keep-requires-then-is_line-3
+number-keep-requires-then-is_line-3 c =
+    (omega arith, fits _ _ _ _ c.is_line-else-is_line-2.ensures c.if-is_line-3.true (omega arith))
+
+pub number-requires-then-is_line-3 : goal.number-requires-then-is_line-3
+number-requires-then-is_line-3 c =
+    (omega arith, fits _ _ _ _ c.is_line-else-is_line-2.ensures c.if-is_line-3.true (omega arith))
+
+pub number-requires-then-is_line-3-2 : goal.number-requires-then-is_line-3-2
+number-requires-then-is_line-3-2 c =
+    (omega arith, fits _ _ _ _ c.is_line-else-is_line-2.ensures c.if-is_line-3.true (omega arith))
+
 pub returns-then-is_line-3 : goal.returns-then-is_line-3
 unfolding tab
 returns-then-is_line-3 c =
@@ -34,6 +67,14 @@ returns-then-is_line-3 c =
     _ _ c.wished-then-is_line-3.ensures refl
     ∙ rw (c.number-keep-then-is_line-3.ensures, c.number-then-is_line-3.ensures, c.number-then-is_line-3-2.ensures)
     (sym (past_2 ∙ chosen _ _ _ _ c.is_line-else-is_line-2.ensures refl c.if-is_line-3.true))
+
+pub number-keep-requires-then-is_line-4 : goal.number-keep-requires-then-is_line-4
+number-keep-requires-then-is_line-4 c =
+    (omega arith, fits _ _ _ _ c.is_line-else-is_line-3.ensures c.if-is_line-4.true (omega arith))
+
+pub number-requires-then-is_line-4 : goal.number-requires-then-is_line-4
+number-requires-then-is_line-4 c =
+    (omega arith, fits _ _ _ _ c.is_line-else-is_line-3.ensures c.if-is_line-4.true (omega arith))
 
 pub returns-then-is_line-4 : goal.returns-then-is_line-4
 unfolding tab

@@ -1,14 +1,23 @@
+use native.Mathlib.Omega.{arith}
 use Prim.Native.Nat.{ℕ}
 use mathlib.Core.Path.{refl, sym, ◌∙◌}
 use mathlib.Core.List.{List, ◌++◌}
 use Rattle.tools.specs.Lists.{tab}
 use Rattle.commands.specs.Lines.{filings, questions, lists}
-use Rattle.commands.proofs.Shapes.{Past, chosen, passed}
+use Rattle.commands.proofs.Shapes.{Past, fits, chosen, passed}
 use Rattle.commands.proofs.parse_filings.Goals as goal
+
+pub number-requires : goal.number-requires
+number-requires c =
+    (omega arith, fits _ _ _ _ c.is_line.ensures c.if-is_line.true (omega arith))
 
 pub returns-then-is_line : goal.returns-then-is_line
 unfolding tab
 returns-then-is_line c = rw c.number.ensures (sym (chosen _ _ _ _ c.is_line.ensures refl c.if-is_line.true))
+
+pub number-requires-then-is_line-2 : goal.number-requires-then-is_line-2
+number-requires-then-is_line-2 c =
+    (omega arith, fits _ _ _ _ c.is_line-else-is_line.ensures c.if-is_line-2.true (omega arith))
 
 pub returns-then-is_line-2 : goal.returns-then-is_line-2
 unfolding tab

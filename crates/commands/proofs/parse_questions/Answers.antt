@@ -1,16 +1,33 @@
+use native.Mathlib.Omega.{arith}
 use Prim.Native.Nat.{ℕ}
 use mathlib.Core.Path.{refl, sym, ◌∙◌}
 use mathlib.Core.List.{List, ◌++◌}
 use Rattle.tools.specs.Lists.{tab}
 use Rattle.commands.specs.Lines.{questions, lists}
-use Rattle.commands.proofs.Shapes.{Past, chosen, passed, may_asked}
+use Rattle.commands.proofs.Shapes.{Past, fits, chosen, passed, may_asked}
 use Rattle.commands.proofs.parse_questions.Goals as goal
+
+pub number-requires : goal.number-requires
+number-requires c =
+    (omega arith, fits _ _ _ _ c.is_line.ensures c.if-is_line.true (omega arith))
+
+pub number-requires-then-is_line : goal.number-requires-then-is_line
+number-requires-then-is_line c =
+    (omega arith, fits _ _ _ _ c.is_line.ensures c.if-is_line.true (omega arith))
 
 pub returns-then-is_line : goal.returns-then-is_line
 unfolding tab
 returns-then-is_line c =
     rw (c.number.ensures, c.number-then-is_line.ensures)
     (sym (chosen _ _ _ _ c.is_line.ensures refl c.if-is_line.true))
+
+pub number-requires-then-is_line-2 : goal.number-requires-then-is_line-2
+number-requires-then-is_line-2 c =
+    (omega arith, fits _ _ _ _ c.is_line-2.ensures c.if-is_line-2.true (omega arith))
+
+pub number-requires-then-is_line-2-2 : goal.number-requires-then-is_line-2-2
+number-requires-then-is_line-2-2 c =
+    (omega arith, fits _ _ _ _ c.is_line-2.ensures c.if-is_line-2.true (omega arith))
 
 pub returns-then-is_line-2 : goal.returns-then-is_line-2
 unfolding tab
@@ -19,6 +36,10 @@ returns-then-is_line-2 c =
     let past_1 : Past (questions ++ lists) 1 line = passed _ _ _ _ c.is_line.ensures refl c.if-is_line.false in
     rw (c.number-then-is_line-2.ensures, c.number-then-is_line-2-2.ensures)
     (sym (past_1 ∙ chosen _ _ _ _ c.is_line-2.ensures refl c.if-is_line-2.true))
+
+pub number-requires-then-is_line-3 : goal.number-requires-then-is_line-3
+number-requires-then-is_line-3 c =
+    (omega arith, fits _ _ _ _ c.is_line-3.ensures c.if-is_line-3.true (omega arith))
 
 pub returns-then-is_line-3 : goal.returns-then-is_line-3
 unfolding tab

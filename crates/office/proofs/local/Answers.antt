@@ -12,25 +12,28 @@ pub returns-then-due-ne-DONE : goal.returns-then-due-ne-DONE
 returns-then-due-ne-DONE c =
     let made : Act = let x = c.args in local x.desk x.keep in
     let x = c.args in
-    unready_stamps x.book.now x.summary.now (on made) refl c.papers-number.result c.papers-number.ensures c.if1.true
+    let u = unready_stamps x.book.now x.summary.now (on made) refl c.papers_number-due.result c.papers_number-due.ensures c.if-due-ne-DONE.true
     c.local_grant-grant.result.number
     (grant_number x.book.now made x.keep c.local_grant-grant.result c.local_grant-grant.ensures ∙ sym (answer_number x.book.now made))
-    c.first_number.result c.first_number.ensures c.event_refused.result c.event_refused.ensures
+    c.first_number.result c.first_number.ensures c.event_refused.result c.event_refused.ensures in
+    record { result_value = u.0; beside = u.1.0; summary_after = u.1.1 }
 
 pub file-requires : goal.file-requires
 file-requires c =
     let made : Act = let x = c.args in local x.desk x.keep in
-    let number : c.local-stamped.result.number ≡ (answer_to c.args.book.now (on made)).number = event_number _ c.local-stamped.result.stamp none c.local-stamped.result.kept ∙ ap (λ (a : Answer). a.number) c.local-stamped.ensures.result_value in
+    -- the number that the call on the book has answered
+    let number : c.local-stamped.result.number ≡ (answer_to c.args.book.now (on made)).number =
+    event_number _ c.local-stamped.result.stamp none c.local-stamped.result.kept ∙ ap (λ (a : Answer). a.number) c.local-stamped.ensures.result_value in
     let x = c.args in (
-      due_ready x.summary.now _ c.papers-number.ensures c.if1.false,
-      left_sound x.book.now (on made) _ number _ c.local.ensures.1.1,
+      due_ready x.summary.now _ c.papers_number-due.ensures c.if-due-ne-DONE.false,
+      left_sound x.book.now (on made) _ number _ c.local-stamped.ensures.book_after,
     )
 
 pub returns : goal.returns
 returns c =
     let made : Act = let x = c.args in local x.desk x.keep in
     let x = c.args in
-    let r = filed x.book.now x.summary.now (on made) refl c.papers-number.result c.papers-number.ensures c.if1.false
-    _ c.local.ensures.0 c.local.result.number (event_number _ c.local.result.stamp none c.local.result.kept) _ _
-    c.local.ensures.1.1 c.file.ensures in
-    (r.0, (c.local.ensures.1.0, r.1))
+    let r = filed x.book.now x.summary.now (on made) refl c.papers_number-due.result c.papers_number-due.ensures c.if-due-ne-DONE.false
+    _ c.local-stamped.ensures.result_value c.local-stamped.result.number (event_number _ c.local-stamped.result.stamp none c.local-stamped.result.kept) _ _
+    c.local-stamped.ensures.book_after c.file.ensures in
+    record { result_value = r.0; beside = c.local-stamped.ensures.beside; summary_after = r.1 }

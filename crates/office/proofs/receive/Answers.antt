@@ -12,27 +12,30 @@ pub returns-then-due-ne-DONE : goal.returns-then-due-ne-DONE
 returns-then-due-ne-DONE c =
     let made : Act = let x = c.args in receive x.desk x.place x.keep in
     let x = c.args in
-    unready_receives x.book.now x.summary.now (on made) refl c.papers-number.result c.papers-number.ensures c.if1.true
+    let u = unready_receives x.book.now x.summary.now (on made) refl c.papers_number-due.result c.papers_number-due.ensures c.if-due-ne-DONE.true
     c.receive_grant-grant.result.number
     (grant_number x.book.now made x.keep c.receive_grant-grant.result c.receive_grant-grant.ensures ∙ sym (answer_number x.book.now made))
-    c.first_number.result c.first_number.ensures c.receive_refused.result c.receive_refused.ensures
+    c.first_number.result c.first_number.ensures c.receive_refused.result c.receive_refused.ensures in
+    record { result_value = u.0; beside = u.1.0; beside_learnt = u.1.1.0; summary_after = u.1.1.1 }
 
 pub file-requires : goal.file-requires
 file-requires c =
     let made : Act = let x = c.args in receive x.desk x.place x.keep in
-    let number : c.receive-received.result.number ≡ (answer_to c.args.book.now (on made)).number = event_number _ c.receive-received.result.stamp (some c.receive-received.result.learnt) c.receive-received.result.kept
+    -- the number that the call on the book has answered
+    let number : c.receive-received.result.number ≡ (answer_to c.args.book.now (on made)).number =
+    event_number _ c.receive-received.result.stamp (some c.receive-received.result.learnt) c.receive-received.result.kept
     ∙ ap (λ (a : Answer). a.number) c.receive-received.ensures.result_value in
     let x = c.args in (
-      due_ready x.summary.now _ c.papers-number.ensures c.if1.false,
-      left_sound x.book.now (on made) _ number _ c.receive.ensures.1.1.1,
+      due_ready x.summary.now _ c.papers_number-due.ensures c.if-due-ne-DONE.false,
+      left_sound x.book.now (on made) _ number _ c.receive-received.ensures.book_after,
     )
 
 pub returns : goal.returns
 returns c =
     let made : Act = let x = c.args in receive x.desk x.place x.keep in
     let x = c.args in
-    let r = filed x.book.now x.summary.now (on made) refl c.papers-number.result c.papers-number.ensures c.if1.false
-    _ c.receive.ensures.0 c.receive.result.number
-    (event_number _ c.receive.result.stamp (some c.receive.result.learnt) c.receive.result.kept) _ _
-    c.receive.ensures.1.1.1 c.file.ensures in
-    (r.0, (c.receive.ensures.1.0, (c.receive.ensures.1.1.0, r.1)))
+    let r = filed x.book.now x.summary.now (on made) refl c.papers_number-due.result c.papers_number-due.ensures c.if-due-ne-DONE.false
+    _ c.receive-received.ensures.result_value c.receive-received.result.number
+    (event_number _ c.receive-received.result.stamp (some c.receive-received.result.learnt) c.receive-received.result.kept) _ _
+    c.receive-received.ensures.book_after c.file.ensures in
+    record { result_value = r.0; beside = c.receive-received.ensures.beside; beside_learnt = c.receive-received.ensures.beside_learnt; summary_after = r.1 }

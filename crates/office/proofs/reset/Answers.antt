@@ -12,25 +12,28 @@ pub returns-then-due-ne-DONE : goal.returns-then-due-ne-DONE
 returns-then-due-ne-DONE c =
     let made : Act = let x = c.args in reset x.desk x.keep in
     let x = c.args in
-    unready_stamps x.book.now x.summary.now (on made) refl c.papers-number.result c.papers-number.ensures c.if1.true
+    let u = unready_stamps x.book.now x.summary.now (on made) refl c.papers_number-due.result c.papers_number-due.ensures c.if-due-ne-DONE.true
     c.reset_grant-grant.result.number
     (grant_number x.book.now made x.keep c.reset_grant-grant.result c.reset_grant-grant.ensures ∙ sym (answer_number x.book.now made))
-    c.first_number.result c.first_number.ensures c.event_refused.result c.event_refused.ensures
+    c.first_number.result c.first_number.ensures c.event_refused.result c.event_refused.ensures in
+    record { result_value = u.0; beside = u.1.0; summary_after = u.1.1 }
 
 pub file-requires : goal.file-requires
 file-requires c =
     let made : Act = let x = c.args in reset x.desk x.keep in
-    let number : c.reset-stamped.result.number ≡ (answer_to c.args.book.now (on made)).number = event_number _ c.reset-stamped.result.stamp none c.reset-stamped.result.kept ∙ ap (λ (a : Answer). a.number) c.reset-stamped.ensures.result_value in
+    -- the number that the call on the book has answered
+    let number : c.reset-stamped.result.number ≡ (answer_to c.args.book.now (on made)).number =
+    event_number _ c.reset-stamped.result.stamp none c.reset-stamped.result.kept ∙ ap (λ (a : Answer). a.number) c.reset-stamped.ensures.result_value in
     let x = c.args in (
-      due_ready x.summary.now _ c.papers-number.ensures c.if1.false,
-      left_sound x.book.now (on made) _ number _ c.reset.ensures.1.1,
+      due_ready x.summary.now _ c.papers_number-due.ensures c.if-due-ne-DONE.false,
+      left_sound x.book.now (on made) _ number _ c.reset-stamped.ensures.book_after,
     )
 
 pub returns : goal.returns
 returns c =
     let made : Act = let x = c.args in reset x.desk x.keep in
     let x = c.args in
-    let r = filed x.book.now x.summary.now (on made) refl c.papers-number.result c.papers-number.ensures c.if1.false
-    _ c.reset.ensures.0 c.reset.result.number (event_number _ c.reset.result.stamp none c.reset.result.kept) _ _
-    c.reset.ensures.1.1 c.file.ensures in
-    (r.0, (c.reset.ensures.1.0, r.1))
+    let r = filed x.book.now x.summary.now (on made) refl c.papers_number-due.result c.papers_number-due.ensures c.if-due-ne-DONE.false
+    _ c.reset-stamped.ensures.result_value c.reset-stamped.result.number (event_number _ c.reset-stamped.result.stamp none c.reset-stamped.result.kept) _ _
+    c.reset-stamped.ensures.book_after c.file.ensures in
+    record { result_value = r.0; beside = c.reset-stamped.ensures.beside; summary_after = r.1 }

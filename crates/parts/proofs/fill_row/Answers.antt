@@ -1,4 +1,4 @@
-use Rattle.std.proofs.Common.{◌≡◌, ◌-◌, length, get_or, set, sym, ◌∙◌, arith, length-set, get_or-set_other, get_or-set_same, ext_get_or, rules, below_none, below_more}
+use Rattle.std.proofs.Common.{◌≡◌, length, get_or, set, sym, ◌∙◌, arith, length-set, get_or-set_other, get_or-set_same, ext_get_or, rules, below_none, below_more}
 use Rattle.parts.proofs.fill_row.Goals as goal
 
 pub loop-i-init : goal.loop-i-init

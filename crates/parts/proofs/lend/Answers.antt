@@ -1,4 +1,4 @@
-use Rattle.std.proofs.Common.{◌-◌, arith, rules}
+use Rattle.std.proofs.Common.{arith, rules}
 use Rattle.parts.proofs.Lent.{front_none, front_more, front_filled}
 use Rattle.parts.proofs.lend.Goals as goal
 

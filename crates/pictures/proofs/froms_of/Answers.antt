@@ -1,4 +1,4 @@
-use Prim.Native.Nat.{◌-◌, ◌<◌}
+use Prim.Native.Nat.{◌<◌}
 use mathlib.Core.Path.{◌≡◌, refl, subst}
 use native.Mathlib.Omega.{arith}
 use lib.ListN.{length}
@@ -15,61 +15,6 @@ loop-i-init c = (omega arith, table_none _ _ _ refl, c.numbers_of-setup.ensures)
 pub from_of-from-requires : goal.from_of-from-requires
 from_of-from-requires c =
     let r = c.requires in record { book_len = (r.size, r.whole, c.loop-i.invariant.2); slot_value = r.used c.loop-i.i (omega arith) }
-
-pub bounds-froms-i : goal.bounds-froms-i
-bounds-froms-i c =
-    let eight : c.loop-i.i < 8 = let f = c.requires.few in omega arith in
-    omega (arith, eight)
-
-pub overflow_add-froms : goal.overflow_add-froms
-overflow_add-froms c =
-    let eight : c.loop-i.i < 8 = let f = c.requires.few in omega arith in
-    omega (arith, eight)
-
-pub bounds-froms-i-in-loop-i : goal.bounds-froms-i-in-loop-i
-bounds-froms-i-in-loop-i c =
-    let eight : c.loop-i.i < 8 = let f = c.requires.few in omega arith in
-    omega (arith, eight)
-
-pub overflow_add-froms-in-loop-i : goal.overflow_add-froms-in-loop-i
-overflow_add-froms-in-loop-i c =
-    let eight : c.loop-i.i < 8 = let f = c.requires.few in omega arith in
-    omega (arith, eight)
-
-pub bounds-froms-i-in-loop-i-2 : goal.bounds-froms-i-in-loop-i-2
-bounds-froms-i-in-loop-i-2 c =
-    let eight : c.loop-i.i < 8 = let f = c.requires.few in omega arith in
-    omega (arith, eight)
-
-pub overflow_add-froms-in-loop-i-2 : goal.overflow_add-froms-in-loop-i-2
-overflow_add-froms-in-loop-i-2 c =
-    let eight : c.loop-i.i < 8 = let f = c.requires.few in omega arith in
-    omega (arith, eight)
-
-pub bounds-froms-i-in-loop-i-3 : goal.bounds-froms-i-in-loop-i-3
-bounds-froms-i-in-loop-i-3 c =
-    let eight : c.loop-i.i < 8 = let f = c.requires.few in omega arith in
-    omega (arith, eight)
-
-pub overflow_add-froms-in-loop-i-3 : goal.overflow_add-froms-in-loop-i-3
-overflow_add-froms-in-loop-i-3 c =
-    let eight : c.loop-i.i < 8 = let f = c.requires.few in omega arith in
-    omega (arith, eight)
-
-pub bounds-froms-i-in-loop-i-4 : goal.bounds-froms-i-in-loop-i-4
-bounds-froms-i-in-loop-i-4 c =
-    let eight : c.loop-i.i < 8 = let f = c.requires.few in omega arith in
-    omega (arith, eight)
-
-pub overflow_add-froms-in-loop-i-4 : goal.overflow_add-froms-in-loop-i-4
-overflow_add-froms-in-loop-i-4 c =
-    let eight : c.loop-i.i < 8 = let f = c.requires.few in omega arith in
-    omega (arith, eight)
-
-pub bounds-froms-i-in-loop-i-5 : goal.bounds-froms-i-in-loop-i-5
-bounds-froms-i-in-loop-i-5 c =
-    let eight : c.loop-i.i < 8 = let f = c.requires.few in omega arith in
-    omega (arith, eight)
 
 pub loop-i-preserved : goal.loop-i-preserved
 loop-i-preserved c =

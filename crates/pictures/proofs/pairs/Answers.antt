@@ -1,6 +1,6 @@
 use Prim.Native.Nat.{ℕ, ◌+◌, ◌-◌, ◌<◌}
 use mathlib.Core.Path.{◌≡◌, sym, subst, ◌∙◌}
-use mathlib.Core.Bool.{false, true≢false}
+use mathlib.Core.Bool.{true≢false}
 use native.Mathlib.Omega.{arith}
 use lib.Dec.{ltb}
 use lib.ListN.{length}
@@ -15,8 +15,9 @@ loop-i-init c = (omega arith, λ q a b. absurd (omega arith), first_none _ _, λ
 
 pub pairs_of-row-requires : goal.pairs_of-row-requires
 pairs_of-row-requires c =
+    -- the place is one of the list's
     let there : c.loop-i.i - 1 < length c.args.slots.now = let t = c.loop-i-test.true in let b = c.loop-i.invariant.0 in omega arith in
-    let p = c.requires in record { ready = p.0; table = p.1; first = there; second = there }
+    let p = c.requires in record { ready = p.ready; table = p.table; first = there; second = there }
 
 pub returns-then-row : goal.returns-then-row
 returns-then-row c =

@@ -1,6 +1,7 @@
-use Prim.Native.Nat.{ℕ, ◌+◌, ◌-◌, ◌<◌}
+use Prim.Native.Nat.{ℕ, ◌+◌, ◌-◌, ◌<◌, ◌≤◌}
+use mathlib.Core.List.{List}
 use mathlib.Core.Path.{◌≡◌, sym, subst, ◌∙◌}
-use mathlib.Core.Bool.{true, false, true≢false}
+use mathlib.Core.Bool.{true≢false}
 use native.Mathlib.Omega.{arith}
 use lib.ListN.{length}
 use Rattle.tools.proofs.Tests.{any_at}
@@ -10,6 +11,10 @@ use Rattle.pictures.proofs.Placed.{turned, far_pair, odd_pair, far_none, odd_non
 use Rattle.pictures.proofs.Judged.{First, first_none, first_more, first_all, far_down, far_all}
 use Rattle.pictures.proofs.pairs_of.Goals as goal
 
+-- the stamp before the k-th has its place in the list
+earlier : (s l t : List ℕ) (i k : ℕ) → Places s l t i i → k ≤ length l → i + 1 < k → Places s l t i (k - 1)
+earlier s l t i k p b a = record { ready = p.ready; table = p.table; first = p.first; second = omega arith }
+
 pub loop-k-init : goal.loop-k-init
 loop-k-init c = let f = c.requires.first in (f, omega arith, λ q a b. absurd (omega arith), first_none _ _)
 
@@ -18,26 +23,22 @@ overflow_add-i c = let p = c.requires in let f = p.ready.few in omega (arith, p.
 
 pub lag_to-there-requires : goal.lag_to-there-requires
 lag_to-there-requires c =
-    let two : Places c.args.book.now c.args.slots.now c.args.froms.now c.args.i (c.loop-k.k - 1) = let p = c.requires in
-    record { ready = p.ready; table = p.table; first = p.first; second = let t = c.loop-k-test.true in let b = c.loop-k.invariant.1 in omega arith } in
+    let two = earlier _ _ _ _ _ c.requires c.loop-k.invariant.1 c.loop-k-test.true in
     two
 
 pub lag_to-back-requires : goal.lag_to-back-requires
 lag_to-back-requires c =
-    let two : Places c.args.book.now c.args.slots.now c.args.froms.now c.args.i (c.loop-k.k - 1) = let p = c.requires in
-    record { ready = p.ready; table = p.table; first = p.first; second = let t = c.loop-k-test.true in let b = c.loop-k.invariant.1 in omega arith } in
+    let two = earlier _ _ _ _ _ c.requires c.loop-k.invariant.1 c.loop-k-test.true in
     turned _ _ _ _ _ two
 
 pub too_far-requires : goal.too_far-requires
 too_far-requires c =
-    let two : Places c.args.book.now c.args.slots.now c.args.froms.now c.args.i (c.loop-k.k - 1) = let p = c.requires in
-    record { ready = p.ready; table = p.table; first = p.first; second = let t = c.loop-k-test.true in let b = c.loop-k.invariant.1 in omega arith } in
+    let two = earlier _ _ _ _ _ c.requires c.loop-k.invariant.1 c.loop-k-test.true in
     let p = two in let f = p.ready.few in (p.table.size, omega (arith, p.first), omega (arith, p.second))
 
 pub returns-then-too_far : goal.returns-then-too_far
 returns-then-too_far c =
-    let two : Places c.args.book.now c.args.slots.now c.args.froms.now c.args.i (c.loop-k.k - 1) = let p = c.requires in
-    record { ready = p.ready; table = p.table; first = p.first; second = let t = c.loop-k-test.true in let b = c.loop-k.invariant.1 in omega arith } in
+    let two = earlier _ _ _ _ _ c.requires c.loop-k.invariant.1 c.loop-k-test.true in
     let above : c.args.i < c.loop-k.k - 1 = let t = c.loop-k-test.true in omega arith in
     let far_here : c.too_far.result ≡ Pairs.far c.args.book.now c.args.slots.now c.args.i (c.loop-k.k - 1) = far_pair _ _ _ _ _ two above _ _ _ (omega arith) (omega arith) c.lag_to-there.ensures
     c.lag_to-back.ensures c.too_far.ensures in
@@ -48,14 +49,12 @@ returns-then-too_far c =
 
 pub at_odds-found-requires : goal.at_odds-found-requires
 at_odds-found-requires c =
-    let two : Places c.args.book.now c.args.slots.now c.args.froms.now c.args.i (c.loop-k.k - 1) = let p = c.requires in
-    record { ready = p.ready; table = p.table; first = p.first; second = let t = c.loop-k-test.true in let b = c.loop-k.invariant.1 in omega arith } in
+    let two = earlier _ _ _ _ _ c.requires c.loop-k.invariant.1 c.loop-k-test.true in
     record { places = two; there_value = (c.lag_to-there.ensures, c.lag_to-back.ensures) }
 
 pub loop-k-preserved : goal.loop-k-preserved
 loop-k-preserved c =
-    let two : Places c.args.book.now c.args.slots.now c.args.froms.now c.args.i (c.loop-k.k - 1) = let p = c.requires in
-    record { ready = p.ready; table = p.table; first = p.first; second = let t = c.loop-k-test.true in let b = c.loop-k.invariant.1 in omega arith } in
+    let two = earlier _ _ _ _ _ c.requires c.loop-k.invariant.1 c.loop-k-test.true in
     let above : c.args.i < c.loop-k.k - 1 = let t = c.loop-k-test.true in omega arith in
     let far_here : c.too_far.result ≡ Pairs.far c.args.book.now c.args.slots.now c.args.i (c.loop-k.k - 1) = far_pair _ _ _ _ _ two above _ _ _ (omega arith) (omega arith) c.lag_to-there.ensures
     c.lag_to-back.ensures c.too_far.ensures in

@@ -1,14 +1,23 @@
-use Prim.Native.Nat.{◌≤◌}
+use Prim.Native.Nat.{ℕ}
 use mathlib.Core.Path.{◌≡◌, sym, ◌∙◌}
-use mathlib.Core.Bool.{Bool, true, false}
+use mathlib.Core.Bool.{Bool, true, false, not}
+use mathlib.Core.List.{List}
+use lib.Dec.{eqb}
+use Rattle.tools.specs.Lists.{byte}
+use Rattle.refusals.specs.First.{list_number}
+use Rattle.pictures.specs.Froms.{Table}
 use native.Mathlib.Omega.{arith}
 use lib.ListN.{length}
 use Rattle.tools.specs.Tests.{any}
 use Rattle.rules.specs.Model.{wrong_owner}
 use Rattle.book.specs.Numbers.{tables_of}
-use Rattle.pictures.specs.Pairs.{far}
 use Rattle.pictures.proofs.Asked.{list_ready, owners_are, out_answered, wrong_answered, second_few, odds_answered, yes_answered}
 use Rattle.pictures.proofs.pictured.Goals as goal
+
+-- whether an owner is wrong, by the table
+owned : (s l : List ℕ) → list_number s l ≡ 0 → (t : List ℕ) → Table s l (length l) t
+    → (r : Bool) → r ≡ any (length l) (λ i. not (eqb (byte t i) i)) → (v : Bool) → r ≡ v → any (length l) (wrong_owner (tables_of s) l) ≡ v
+owned s l h t a r e v z = sym (owners_are s l h t a) ∙ sym e ∙ z
 
 pub froms_of-froms-requires : goal.froms_of-froms-requires
 froms_of-froms-requires c = list_ready _ _ c.requires
@@ -21,37 +30,36 @@ returns-then-found c = out_answered _ _ c.requires (sym c.pairs-found.ensures.ou
 
 pub wrong_owner-requires : goal.wrong_owner-requires
 wrong_owner-requires c =
-    let few : length c.args.slots.now ≤ 8 = (list_ready c.args.book.now c.args.slots.now c.requires).few in
+    let few = (list_ready c.args.book.now c.args.slots.now c.requires).few in
     (few, c.froms_of-froms.ensures.size)
 
 pub returns-then-wrong_owner : goal.returns-then-wrong_owner
 returns-then-wrong_owner c =
-    let near : any (length c.args.slots.now) (λ i. any (length c.args.slots.now) (far c.args.book.now c.args.slots.now i)) ≡ false = sym c.pairs-found.ensures.out ∙ c.if-found.false in
-    let owned : (t : Bool) → (c.wrong_owner.result ≡ t) → any (length c.args.slots.now) (wrong_owner (tables_of c.args.book.now) c.args.slots.now) ≡ t = λ t. λ e. sym (owners_are _ _ c.requires _ c.froms_of-froms.ensures) ∙ sym c.wrong_owner.ensures ∙ e in
-    wrong_answered _ _ c.requires near (owned true c.if-wrong_owner.true)
+    -- no two are out of reach
+    let near = sym c.pairs-found.ensures.out ∙ c.if-found.false in
+    wrong_answered _ _ c.requires near (owned _ _ c.requires _ c.froms_of-froms.ensures _ c.wrong_owner.ensures true c.if-wrong_owner.true)
 
 pub overflow_cast-result : goal.overflow_cast-result
 overflow_cast-result c =
-    let few : length c.args.slots.now ≤ 8 = (list_ready c.args.book.now c.args.slots.now c.requires).few in
+    let few = (list_ready c.args.book.now c.args.slots.now c.requires).few in
     omega (arith, few)
 
 pub overflow_cast-result-then-found-slots : goal.overflow_cast-result-then-found-slots
 overflow_cast-result-then-found-slots c =
-    let few : length c.args.slots.now ≤ 8 = (list_ready c.args.book.now c.args.slots.now c.requires).few in
+    let few = (list_ready c.args.book.now c.args.slots.now c.requires).few in
     let a = c.args in
     let k = second_few a.book.now a.slots.now c.pairs-found.result.higher (c.pairs-found.ensures.higher c.if-found.false c.if-found-slots.true) in
     omega (arith, few, k)
 
 pub returns-then-found-slots : goal.returns-then-found-slots
 returns-then-found-slots c =
-    let near : any (length c.args.slots.now) (λ i. any (length c.args.slots.now) (far c.args.book.now c.args.slots.now i)) ≡ false = sym c.pairs-found.ensures.out ∙ c.if-found.false in
-    let owned : (t : Bool) → (c.wrong_owner.result ≡ t) → any (length c.args.slots.now) (wrong_owner (tables_of c.args.book.now) c.args.slots.now) ≡ t = λ t. λ e. sym (owners_are _ _ c.requires _ c.froms_of-froms.ensures) ∙ sym c.wrong_owner.ensures ∙ e in
-    let p = c.pairs-found.ensures in let h = c.if-found-slots.true in odds_answered _ _ c.requires near (owned false
-    c.if-wrong_owner.false) _ (p.lower c.if-found.false) _ h (p.higher c.if-found.false h)
+    -- no two are out of reach
+    let near = sym c.pairs-found.ensures.out ∙ c.if-found.false in
+    let p = c.pairs-found.ensures in let h = c.if-found-slots.true in odds_answered _ _ c.requires near (owned _ _ c.requires _ c.froms_of-froms.ensures _ c.wrong_owner.ensures false c.if-wrong_owner.false) _ (p.lower c.if-found.false) _ h (p.higher c.if-found.false h)
 
 pub returns : goal.returns
 returns c =
-    let near : any (length c.args.slots.now) (λ i. any (length c.args.slots.now) (far c.args.book.now c.args.slots.now i)) ≡ false = sym c.pairs-found.ensures.out ∙ c.if-found.false in
-    let owned : (t : Bool) → (c.wrong_owner.result ≡ t) → any (length c.args.slots.now) (wrong_owner (tables_of c.args.book.now) c.args.slots.now) ≡ t = λ t. λ e. sym (owners_are _ _ c.requires _ c.froms_of-froms.ensures) ∙ sym c.wrong_owner.ensures ∙ e in
-    let p = c.pairs-found.ensures in yes_answered _ _ c.requires near (owned false c.if-wrong_owner.false) _
+    -- no two are out of reach
+    let near = sym c.pairs-found.ensures.out ∙ c.if-found.false in
+    let p = c.pairs-found.ensures in yes_answered _ _ c.requires near (owned _ _ c.requires _ c.froms_of-froms.ensures _ c.wrong_owner.ensures false c.if-wrong_owner.false) _
     (p.lower c.if-found.false) (omega arith)

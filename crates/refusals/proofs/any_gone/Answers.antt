@@ -1,4 +1,3 @@
-use Prim.Native.Nat.{◌-◌}
 use mathlib.Core.Path.{◌≡◌, sym, ap, ◌∙◌}
 use mathlib.Core.Bool.{not}
 use native.Mathlib.Omega.{arith}
@@ -11,11 +10,11 @@ loop-i-init c = (omega arith, any_none _)
 
 pub returns-then-not-is_used : goal.returns-then-not-is_used
 returns-then-not-is_used c =
-    let x = c.args in sym (any_at (length x.slots.now) _ c.loop-i.i (omega arith) (ap not (sym c.is_used.ensures) ∙ c.if-not-is_used.true-raw))
+    let x = c.args in sym (any_at (length x.slots.now) _ c.loop-i.i (omega arith) (ap not (sym c.is_used.ensures ∙ c.if-not-is_used.true)))
 
 pub loop-i-preserved : goal.loop-i-preserved
 loop-i-preserved c =
-    (omega arith, any_more _ _ c.loop-i.invariant.1 (ap not (sym c.is_used.ensures) ∙ c.if-not-is_used.false-raw))
+    (omega arith, any_more _ _ c.loop-i.invariant.1 (ap not (sym c.is_used.ensures ∙ c.if-not-is_used.false)))
 
 pub returns : goal.returns
 returns c =

@@ -1,25 +1,27 @@
 use Prim.Native.Nat.{ℕ}
 use mathlib.Core.Path.{◌≡◌, sym, ◌∙◌}
 use mathlib.Core.Bool.{Bool, true, false, ◌||◌}
+use mathlib.Core.List.{List}
 use native.Mathlib.Omega.{arith}
 use borrow.Author.Tests.{eq-eqb, ne_eqb}
 use Rattle.rules.specs.Model.{send, reasons, no_desk}
 use Rattle.book.specs.Layout.{setup_of}
 use Rattle.book.specs.Sound.{sound}
-use Rattle.book.specs.Numbers.{number_of}
 use Rattle.book.proofs.Soundness.{sound_size}
-use Rattle.rows.specs.Rows.{AtDesk}
 use Rattle.reasons.proofs.Held.{desk_there}
 use Rattle.tools.proofs.Tests.{or_false_l}
-use Rattle.refusals.specs.Grants.{granted, grant_of}
 use Rattle.refusals.proofs.Grants.{not_granted}
 use Rattle.refusals.proofs.send_grant.Goals as goal
 
+-- whether either desk is none, by what the two questions answered
+either : (s : List ℕ) (j k : ℕ) (a b : Bool) → a ≡ no_desk (setup_of s) j → b ≡ no_desk (setup_of s) k
+    → (t : Bool) → (a || b) ≡ t → (no_desk (setup_of s) j || no_desk (setup_of s) k) ≡ t
+either s j k a b e f t h = sym (λ i. e i || f i) ∙ h
+
 pub returns-then-not-sound : goal.returns-then-not-sound
 returns-then-not-sound c =
-    let refusing : (n : ℕ) → (n ≡ number_of c.args.book.now (send c.args.desk c.args.to c.args.keep)) → ((n ≡ 0 → ⊥)) → granted n 32 ≡ grant_of c.args.book.now (send c.args.desk c.args.to c.args.keep) c.args.keep = λ n. λ _. λ _. not_granted c.args.book.now (send c.args.desk c.args.to c.args.keep) c.args.keep in
     c.refused.ensures
-    ∙ refusing 1 (rw (sym c.sound.ensures ∙ c.if-not-sound.true)) (λ z. omega arith)
+    ∙ not_granted c.args.book.now (send c.args.desk c.args.to c.args.keep) c.args.keep 1 (rw (sym c.sound.ensures ∙ c.if-not-sound.true)) (λ z. omega arith)
 
 pub no_desk-requires : goal.no_desk-requires
 no_desk-requires c =
@@ -34,47 +36,31 @@ no_desk-requires-2 c =
 pub returns-then-no_desk : goal.returns-then-no_desk
 unfolding reasons
 returns-then-no_desk c =
-    let refusing : (n : ℕ) → (n ≡ number_of c.args.book.now (send c.args.desk c.args.to c.args.keep)) → ((n ≡ 0 → ⊥)) → granted n 32 ≡ grant_of c.args.book.now (send c.args.desk c.args.to c.args.keep) c.args.keep = λ n. λ _. λ _. not_granted c.args.book.now (send c.args.desk c.args.to c.args.keep) c.args.keep in
     let whole : sound c.args.book.now ≡ true = sym c.sound.ensures ∙ c.if-not-sound.false in
-    let neither : Bool = no_desk (setup_of c.args.book.now) c.args.desk
-    || no_desk (setup_of c.args.book.now) c.args.to in
-    let asked : (c.no_desk.result || c.no_desk-2.result) ≡ neither = λ i. c.no_desk.ensures i || c.no_desk-2.ensures i in
     c.refused-then-no_desk.ensures
-    ∙ refusing 3 (rw (whole, sym asked ∙ c.if-no_desk.true)) (λ z. omega arith)
+    ∙ not_granted c.args.book.now (send c.args.desk c.args.to c.args.keep) c.args.keep 3 (rw (whole, either c.args.book.now c.args.desk c.args.to _ _ c.no_desk.ensures c.no_desk-2.ensures true c.if-no_desk.true)) (λ z. omega arith)
 
 pub returns-then-desk-to : goal.returns-then-desk-to
 unfolding reasons
 returns-then-desk-to c =
-    let refusing : (n : ℕ) → (n ≡ number_of c.args.book.now (send c.args.desk c.args.to c.args.keep)) → ((n ≡ 0 → ⊥)) → granted n 32 ≡ grant_of c.args.book.now (send c.args.desk c.args.to c.args.keep) c.args.keep = λ n. λ _. λ _. not_granted c.args.book.now (send c.args.desk c.args.to c.args.keep) c.args.keep in
     let whole : sound c.args.book.now ≡ true = sym c.sound.ensures ∙ c.if-not-sound.false in
-    let neither : Bool = no_desk (setup_of c.args.book.now) c.args.desk
-    || no_desk (setup_of c.args.book.now) c.args.to in
-    let asked : (c.no_desk.result || c.no_desk-2.result) ≡ neither = λ i. c.no_desk.ensures i || c.no_desk-2.ensures i in
-    let desks : neither ≡ false = sym asked ∙ c.if-no_desk.false in
+    let desks = either c.args.book.now c.args.desk c.args.to _ _ c.no_desk.ensures c.no_desk-2.ensures false c.if-no_desk.false in
     c.refused-then-desk-to.ensures
-    ∙ refusing 4 (rw (whole, desks, eq-eqb _ _ c.if-desk-to.true)) (λ z. omega arith)
+    ∙ not_granted c.args.book.now (send c.args.desk c.args.to c.args.keep) c.args.keep 4 (rw (whole, desks, eq-eqb _ _ c.if-desk-to.true)) (λ z. omega arith)
 
 pub phase_full-requires : goal.phase_full-requires
 phase_full-requires c =
     let whole : sound c.args.book.now ≡ true = sym c.sound.ensures ∙ c.if-not-sound.false in
-    let neither : Bool = no_desk (setup_of c.args.book.now) c.args.desk
-    || no_desk (setup_of c.args.book.now) c.args.to in
-    let asked : (c.no_desk.result || c.no_desk-2.result) ≡ neither = λ i. c.no_desk.ensures i || c.no_desk-2.ensures i in
-    let desks : neither ≡ false = sym asked ∙ c.if-no_desk.false in
-    let there : AtDesk c.args.book.now c.args.desk = desk_there _ _ whole (or_false_l _ _ desks) in
-    there
+    let desks = either c.args.book.now c.args.desk c.args.to _ _ c.no_desk.ensures c.no_desk-2.ensures false c.if-no_desk.false in
+    desk_there _ _ whole (or_false_l _ _ desks)
 
 pub returns-then-phase_full : goal.returns-then-phase_full
 unfolding reasons
 returns-then-phase_full c =
-    let refusing : (n : ℕ) → (n ≡ number_of c.args.book.now (send c.args.desk c.args.to c.args.keep)) → ((n ≡ 0 → ⊥)) → granted n 32 ≡ grant_of c.args.book.now (send c.args.desk c.args.to c.args.keep) c.args.keep = λ n. λ _. λ _. not_granted c.args.book.now (send c.args.desk c.args.to c.args.keep) c.args.keep in
     let whole : sound c.args.book.now ≡ true = sym c.sound.ensures ∙ c.if-not-sound.false in
-    let neither : Bool = no_desk (setup_of c.args.book.now) c.args.desk
-    || no_desk (setup_of c.args.book.now) c.args.to in
-    let asked : (c.no_desk.result || c.no_desk-2.result) ≡ neither = λ i. c.no_desk.ensures i || c.no_desk-2.ensures i in
-    let desks : neither ≡ false = sym asked ∙ c.if-no_desk.false in
+    let desks = either c.args.book.now c.args.desk c.args.to _ _ c.no_desk.ensures c.no_desk-2.ensures false c.if-no_desk.false in
     c.refused-then-phase_full.ensures
-    ∙ refusing 8
+    ∙ not_granted c.args.book.now (send c.args.desk c.args.to c.args.keep) c.args.keep 8
     (rw (
       whole,
       desks,
@@ -86,24 +72,16 @@ returns-then-phase_full c =
 pub mail_full-requires : goal.mail_full-requires
 mail_full-requires c =
     let whole : sound c.args.book.now ≡ true = sym c.sound.ensures ∙ c.if-not-sound.false in
-    let neither : Bool = no_desk (setup_of c.args.book.now) c.args.desk
-    || no_desk (setup_of c.args.book.now) c.args.to in
-    let asked : (c.no_desk.result || c.no_desk-2.result) ≡ neither = λ i. c.no_desk.ensures i || c.no_desk-2.ensures i in
-    let desks : neither ≡ false = sym asked ∙ c.if-no_desk.false in
-    let there : AtDesk c.args.book.now c.args.desk = desk_there _ _ whole (or_false_l _ _ desks) in
-    there.size
+    let desks = either c.args.book.now c.args.desk c.args.to _ _ c.no_desk.ensures c.no_desk-2.ensures false c.if-no_desk.false in
+    (desk_there _ _ whole (or_false_l _ _ desks)).size
 
 pub returns-then-mail_full : goal.returns-then-mail_full
 unfolding reasons
 returns-then-mail_full c =
-    let refusing : (n : ℕ) → (n ≡ number_of c.args.book.now (send c.args.desk c.args.to c.args.keep)) → ((n ≡ 0 → ⊥)) → granted n 32 ≡ grant_of c.args.book.now (send c.args.desk c.args.to c.args.keep) c.args.keep = λ n. λ _. λ _. not_granted c.args.book.now (send c.args.desk c.args.to c.args.keep) c.args.keep in
     let whole : sound c.args.book.now ≡ true = sym c.sound.ensures ∙ c.if-not-sound.false in
-    let neither : Bool = no_desk (setup_of c.args.book.now) c.args.desk
-    || no_desk (setup_of c.args.book.now) c.args.to in
-    let asked : (c.no_desk.result || c.no_desk-2.result) ≡ neither = λ i. c.no_desk.ensures i || c.no_desk-2.ensures i in
-    let desks : neither ≡ false = sym asked ∙ c.if-no_desk.false in
+    let desks = either c.args.book.now c.args.desk c.args.to _ _ c.no_desk.ensures c.no_desk-2.ensures false c.if-no_desk.false in
     c.refused-then-mail_full.ensures
-    ∙ refusing 9
+    ∙ not_granted c.args.book.now (send c.args.desk c.args.to c.args.keep) c.args.keep 9
     (rw (
       whole,
       desks,
@@ -116,21 +94,14 @@ returns-then-mail_full c =
 pub shelf_grant-requires : goal.shelf_grant-requires
 shelf_grant-requires c =
     let whole : sound c.args.book.now ≡ true = sym c.sound.ensures ∙ c.if-not-sound.false in
-    let neither : Bool = no_desk (setup_of c.args.book.now) c.args.desk
-    || no_desk (setup_of c.args.book.now) c.args.to in
-    let asked : (c.no_desk.result || c.no_desk-2.result) ≡ neither = λ i. c.no_desk.ensures i || c.no_desk-2.ensures i in
-    let desks : neither ≡ false = sym asked ∙ c.if-no_desk.false in
-    let there : AtDesk c.args.book.now c.args.desk = desk_there _ _ whole (or_false_l _ _ desks) in
-    there.size
+    let desks = either c.args.book.now c.args.desk c.args.to _ _ c.no_desk.ensures c.no_desk-2.ensures false c.if-no_desk.false in
+    (desk_there _ _ whole (or_false_l _ _ desks)).size
 
 pub returns : goal.returns
 unfolding reasons
 returns c =
     let whole : sound c.args.book.now ≡ true = sym c.sound.ensures ∙ c.if-not-sound.false in
-    let neither : Bool = no_desk (setup_of c.args.book.now) c.args.desk
-    || no_desk (setup_of c.args.book.now) c.args.to in
-    let asked : (c.no_desk.result || c.no_desk-2.result) ≡ neither = λ i. c.no_desk.ensures i || c.no_desk-2.ensures i in
-    let desks : neither ≡ false = sym asked ∙ c.if-no_desk.false in
+    let desks = either c.args.book.now c.args.desk c.args.to _ _ c.no_desk.ensures c.no_desk-2.ensures false c.if-no_desk.false in
     rw (
       whole,
       desks,

@@ -16,9 +16,9 @@ is_used-requires c =
 pub returns-then-not-is_used : goal.returns-then-not-is_used
 returns-then-not-is_used c =
     let whole : sound c.args.book.now ≡ true = sym c.sound.ensures ∙ c.if-not-sound.false in
-    rw (whole, ap not (sym c.is_used.ensures) ∙ c.if-not-is_used.true-raw)
+    rw (whole, ap not (sym c.is_used.ensures ∙ c.if-not-is_used.true))
 
 pub returns : goal.returns
 returns c =
     let whole : sound c.args.book.now ≡ true = sym c.sound.ensures ∙ c.if-not-sound.false in
-    rw (whole, ap not (sym c.is_used.ensures) ∙ c.if-not-is_used.false-raw)
+    rw (whole, ap not (sym c.is_used.ensures ∙ c.if-not-is_used.false))

@@ -16,8 +16,7 @@ refused_line : (D n : ℕ) (r : Foretold) → r ≡ Refused n → answer_text D 
 refused_line D n r e = ap (λ (q : Foretold). answer_text D (foretold_says q)) (sym e)
 
 pub returns-in-Is : goal.returns-in-Is
-returns-in-Is c = let g = c.r-1.given in λ D. same_text (told_line D g.0.0 _ g.1) (c.put_may.ensures D)
+returns-in-Is c = λ D. same_text (told_line D _ _ c.in-Is.is) (c.put_may.ensures D)
 
 pub returns-in-Refused : goal.returns-in-Refused
-returns-in-Refused c =
-    let g = c.r-in-Refused-1.given in λ D. same_text (refused_line D g.0.0 _ g.1) (c.put_number.ensures D)
+returns-in-Refused c = λ D. same_text (refused_line D _ _ c.in-Refused.is) (c.put_number.ensures D)

@@ -5,19 +5,11 @@ use mathlib.Core.List.{[], ◌∷◌, ◌++◌}
 use borrow.Author.Tests.{ne_eqb}
 use Rattle.tools.specs.Tests.{pick}
 use Rattle.text.specs.Words.{ascii}
-use Rattle.text.specs.Put.{Wrote, three, field}
+use Rattle.text.specs.Put.{three, field}
 use Rattle.text.proofs.Writing.{same_text, then}
 use Rattle.rules.specs.Model.{says, foretells, accepted}
 use Rattle.replies.specs.Print.{answer_text}
 use Rattle.replies.proofs.put_may.Goals as goal
-
--- the field that is written is the number's
-number_put
-    : (c : tie.After-put-field)
-    → let a = c.before.before.before.before in
-    Wrote a.put_three.new.0 a.put_three.result (field a.before.before.before.before.args.n) c.put-field.new.0
-    c.put-field.result
-number_put c = c.put-field.ensures
 
 -- the line of the number 0, and of any other
 yes_line : (D n : ℕ) → n ≡ 0 → answer_text D (accepted (says true)) ≡ answer_text D (accepted (foretells n))
@@ -33,4 +25,4 @@ pub returns : goal.returns
 returns c =
     λ D.
     same_text (number_line D _ c.if-n-eq-DONE.false)
-    (then (then c.put_three-a.ensures (number_put c)) c.put_byte.ensures)
+    (then (then c.put_three-a.ensures c.put_field-b.ensures) c.put_byte.ensures)

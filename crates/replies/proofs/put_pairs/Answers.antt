@@ -2,29 +2,21 @@ use Rattle.text.proofs.Writing.{none, then, wrote_length}
 use Rattle.rules.specs.Replies.{row_of}
 use Rattle.replies.specs.Print.{pairs}
 use Rattle.replies.proofs.Lengths.{pairs_length}
-use lib.ListN.{length}
 use native.Mathlib.Numerals.{add-one}
 use borrow.Author.Tests.{lt-ltb}
 use borrow.Author.Rules.{rules}
 use native.Mathlib.Omega.{arith}
 use mathlib.Core.Path.{◌≡◌, sym}
-use Prim.Native.Nat.{◌+◌, ◌*◌, ◌-◌, ◌≤◌}
 use Rattle.replies.proofs.put_pairs.Goals as goal
-
--- there is room for the pairs that are left
-room
-    : (c : tie.At-loop invariant_loop decreases_loop)
-    → c.loop.a + 8 * (c.before.before.args.desks - c.loop.j) ≤ length c.loop.out
-room c =
-    omega
-    (arith, c.loop.invariant.1.ends, wrote_length c.loop.invariant.1, pairs_length c.loop.j (row_of c.before.before.args.t4))
 
 pub loop-j-init : goal.loop-j-init
 unfolding pairs
 loop-j-init c = (search rules, none c.args.out.now c.args.at (omega arith))
 
+-- there is room for the pairs that are left
 pub put_pair-a-requires : goal.put_pair-a-requires
-put_pair-a-requires c = omega (arith, room c)
+put_pair-a-requires c =
+    let h = c.loop-j in omega (arith, h.invariant.1.ends, wrote_length h.invariant.1, pairs_length h.j (row_of c.args.row))
 
 pub loop-j-preserved : goal.loop-j-preserved
 unfolding pairs

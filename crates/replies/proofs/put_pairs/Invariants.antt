@@ -4,6 +4,7 @@ use Rattle.replies.specs.Print.{pairs}
 use Prim.Native.Nat.{◌-◌, ◌≤◌}
 use Rattle.replies.proofs.put_pairs.Given as goal
 
+-- the pairs of the desks before `j` are written
 abbrev pub invariant-loop-j : goal.invariant-loop-j
 invariant-loop-j l = (l.j ≤ l.desks) × Wrote l.initial.out l.at (pairs l.j (row_of l.row)) l.out l.a
 

@@ -1,4 +1,4 @@
 use Rattle.ring.proofs.full_next.Goals as goal
 
 pub returns : goal.returns
-returns c = c.wrapping_add_u8.ensures
+returns c = c.wrapping_add_u8.ensures.value

@@ -9,4 +9,4 @@ returns-then-own-v c h =
 pub returns : goal.returns
 returns c h =
     let full = c.full_lag-lag in let a = c.args in lag_shorter (a.last + 1) 256 a.own a.v full.result _ _ (omega arith) (omega arith) full.ensures
-    c.wrapping_sub_u8.type_inv c.wrapping_sub_u8.ensures (omega arith)
+    c.wrapping_sub_u8.type_inv c.wrapping_sub_u8.ensures.value (omega arith)

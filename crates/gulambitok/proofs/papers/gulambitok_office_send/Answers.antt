@@ -1,0 +1,55 @@
+use mathlib.Core.Path.{refl}
+use mathlib.Core.Bool.{◌||◌}
+use lib.Dec.{ltb}
+use lib.ListN.{length}
+use Rattle.rules.specs.Model.{Act, send, done}
+use Rattle.rules.specs.Calls.{on}
+use Rattle.office.specs.Office.{Folder, folder, office_answer, folder_after}
+use Rattle.door.specs.Door.{wished, place_in}
+use Rattle.gulambitok.proofs.Called.{with_byte_short, sent_fits, with_byte_makes, first_enough, last_enough}
+use Rattle.gulambitok.proofs.Filed.{granted_filed, slot_filed}
+use Rattle.gulambitok.proofs.papers.gulambitok_office_send.Goals as goal
+
+pub returns-then-slot_short-place : goal.returns-then-slot_short-place
+returns-then-slot_short-place c =
+    let x = c.args in
+    let o = c.slot_short in
+    let lent : Folder = folder x.book.now x.summary.now in
+    let made : Act = send x.desk x.to (wished x.keep) in
+    with_byte_short x.book.now (wished x.keep) x.stamp.now x.slot.now o.result o.ensures
+    (office_answer lent (on made)) lent (folder_after lent (on made)) c.send_grant-grant.result
+    (granted_filed made lent (wished x.keep) _ c.send_grant-grant.ensures) _ c.number_by.ensures
+    place_in refl x.place.now c.if-slot_short-place.true
+
+-- steps are found by their names, whatever is lent to the call: a call on the book alone falls by what it answers
+pub give_sent-requires : goal.give_sent-requires
+unfolding done
+give_sent-requires c =
+    let x = c.args in
+    let o = c.slot_short in
+    let k = c.send-sent in
+    let e = c.if-slot_short-place in
+    let lent : Folder = folder x.book.now x.summary.now in
+    let made : Act = send x.desk x.to (wished x.keep) in
+    let b = ltb (length x.place.now) 1 in
+    let both = first_enough (o.result || b) (length x.stamp.now) 20 e.false in
+    record {
+      record_size_in_bounds = (last_enough (o.result || b) _ _ e.false, last_enough o.result _ _ both);
+      kept_in_bounds = sent_fits x.book.now (wished x.keep) x.stamp.now x.slot.now o.result o.ensures
+          (office_answer lent (on made)) (slot_filed made lent (wished x.keep) refl)
+          k.result.place k.result.stamp k.result.kept
+          k.ensures.kept_value k.ensures.beside_post (first_enough o.result (length x.place.now) 1 both);
+    }
+
+pub returns : goal.returns
+returns c =
+    let x = c.args in
+    let o = c.slot_short in
+    let k = c.send-sent in
+    let e = c.if-slot_short-place in
+    let lent : Folder = folder x.book.now x.summary.now in
+    let made : Act = send x.desk x.to (wished x.keep) in
+    with_byte_makes x.book.now (wished x.keep) x.stamp.now x.slot.now o.result o.ensures
+    (office_answer lent (on made)) lent (folder_after lent (on made))
+    _ k.ensures.kept_value _ k.ensures.summary_after _ c.desks_in-desks.ensures _ _ _ place_in _ _ e.false
+    c.give_sent.ensures
