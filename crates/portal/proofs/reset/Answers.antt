@@ -5,14 +5,22 @@ use Rattle.portal.proofs.reset.Goals as goal
 
 pub returns-then-grant-ne-DONE : goal.returns-then-grant-ne-DONE
 returns-then-grant-ne-DONE c =
-    let g = c.reset_grant-grant in refused_stamps _ _ _ (ap (λ (x : Grant). x.number) g.ensures) c.if-grant-ne-DONE.true _ c.event_refused.ensures
+    let g = c.reset_grant-grant in
+    let r = refused_stamps _ _ _ (ap (λ (x : Grant). x.number) g.ensures) c.if-grant-ne-DONE.true _ c.event_refused.ensures in
+    record { result_value = r.0; beside = r.1.0; book_after = r.1.1 }
 
 pub turned_row-row-requires : goal.turned_row-row-requires
-turned_row-row-requires c = let g = c.reset-grant in reset_at_lem _ _ _ g.result g.ensures c.if1.false
+turned_row-row-requires c = let g = c.reset_grant-grant in reset_at_lem _ _ _ g.result g.ensures c.if-grant-ne-DONE.false
 
 pub take_row-requires : goal.take_row-requires
-take_row-requires c = let g = c.reset-grant in reset_seat _ _ _ g.result g.ensures c.if1.false
+take_row-requires c =
+    let g = c.reset_grant-grant in
+    let s = reset_seat _ _ _ g.result g.ensures c.if-grant-ne-DONE.false in
+    record { book_len = s.0; desk_lt_seats = s.1 }
 
 pub returns : goal.returns
 returns c =
-    let g = c.reset-grant in let t = c.take_row.ensures in reset_stamps _ _ _ g.result g.ensures c.if1.false _ _ _ t.0 c.turned_row-row.ensures t.1
+    let g = c.reset_grant-grant in
+    let t = c.take_row.ensures in
+    let r = reset_stamps _ _ _ g.result g.ensures c.if-grant-ne-DONE.false _ _ _ t.value c.turned_row-row.ensures t.book_after in
+    record { result_value = r.0; beside = r.1.0; book_after = r.1.1 }

@@ -18,6 +18,9 @@ limit_left s j n row b e h = h ∙ ap (λ (m : ℕ). post s j 1 m row) e
 pub returns : goal.returns
 unfolding stamped
 returns c =
-    let x = c.before.args in record { value = ap (stamped x.desk x.row) c.keep_row-kept.ensures.value; book_after = c.keep_row-kept.ensures.book_after
+    let x = c.args in record {
+      value = ap (stamped x.desk x.row) c.keep_row-kept.ensures.value;
+      book_after = c.keep_row-kept.ensures.book_after
           ∙ ap (λ (y : List ℕ). shelved y x.desk x.row x.slot)
-          (limit_left x.book.now x.desk _ x.row _ c.tag_b-limit.ensures c.post.ensures) }
+          (limit_left x.book.now x.desk _ x.row _ c.tag_b-limit.ensures c.post.ensures);
+    }
