@@ -1,11 +1,8 @@
-use Rattle.replies.specs.Print.{longest}
 use Rattle.answering.proofs.Answered.{printable, asked, printed, printed_any}
-use Rattle.office.specs.Office.{Folder, folder}
-use Rattle.commands.specs.Lines.{parse_of, wanted_by}
+use Rattle.office.specs.Office.{folder}
+use Rattle.commands.specs.Lines.{wanted_by}
 use Rattle.commands.proofs.Exact.{start_fits, picture_fits}
-use mathlib.Core.Path.{◌≡◌, refl, sym, ap, ◌∙◌}
-use Prim.Native.Nat.{◌+◌, ◌≤◌}
-use lib.ListN.{length}
+use mathlib.Core.Path.{refl, sym, ap, ◌∙◌}
 use Rattle.answering.proofs.obey.Goals as goal
 
 -- `c.requires.0` is the room for the longest line; by `c.requires.1` the command is the line's

@@ -1,7 +1,6 @@
 use Rattle.tools.proofs.Tests.{all_none, all_more, all_not}
 use native.Mathlib.Omega.{arith}
 use mathlib.Core.Path.{◌≡◌, sym, ◌∙◌}
-use Prim.Native.Nat.{◌-◌}
 use Rattle.text.proofs.are_numbers.Goals as goal
 
 pub loop-i-init : goal.loop-i-init

@@ -1,7 +1,6 @@
 use Rattle.text.specs.Stream.{flat}
 use Rattle.text.proofs.Streams.{part_none, part_more, flat_more}
 use native.Mathlib.Omega.{arith}
-use Prim.Native.Nat.{◌-◌}
 use Rattle.text.proofs.line_end.Goals as goal
 
 pub loop-i-init : goal.loop-i-init

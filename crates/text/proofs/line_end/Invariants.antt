@@ -5,6 +5,7 @@ use mathlib.Core.Path.{◌≡◌}
 use Prim.Native.Nat.{◌≤◌, ◌-◌}
 use Rattle.text.proofs.line_end.Given as goal
 
+-- no byte from `from` to `i` is a newline
 abbrev pub invariant-loop-i : goal.invariant-loop-i
 invariant-loop-i l = (l.from ≤ l.i) × (l.i ≤ length l.s) × (flat (part l.from l.i l.s) ≡ true)
 

@@ -7,11 +7,12 @@ use borrow.Author.Rules.{rules}
 use native.Mathlib.Omega.{arith}
 use mathlib.Core.List.{List, [], ◌∷◌, ◌++◌, append_assoc, append-nil}
 use mathlib.Core.Path.{◌≡◌, ap, sym, ◌∙◌}
-use Prim.Native.Nat.{ℕ, ◌+◌, ◌-◌}
+use Prim.Native.Nat.{ℕ, ◌+◌}
 use Rattle.text.proofs.longer.Goals as goal
 
 pub loop-i-init : goal.loop-i-init
 loop-i-init c =
+    -- the array is as long as its type says
     let size : length c.args.p.line ≡ 65 = search rules in
     let p = c.args.p in (size, omega arith, omega arith, omega arith, sym (append-nil (take p.count p.line)))
 
@@ -37,6 +38,7 @@ loop-i-preserved c =
 
 pub returns-else-n-le-LINE_MOST : goal.returns-else-n-le-LINE_MOST
 returns-else-n-le-LINE_MOST c =
+    -- the array is as long as its type says
     let size : length c.args.p.line ≡ 65 = search rules in
     let held_length : length (line_of c.args.p) ≡ c.args.p.count = length-take-le c.args.p.count c.args.p.line (omega (arith, size)) in
     let h = c.loop-i in let a = c.args in let e : most ≡ length (line_of a.p) + h.i = omega (arith, leb-false, held_length) in (
@@ -46,6 +48,7 @@ returns-else-n-le-LINE_MOST c =
 
 pub returns-after-loop-i : goal.returns-after-loop-i
 returns-after-loop-i c =
+    -- the array is as long as its type says
     let size : length c.args.p.line ≡ 65 = search rules in
     let held_length : length (line_of c.args.p) ≡ c.args.p.count = length-take-le c.args.p.count c.args.p.line (omega (arith, size)) in
     let h = c.loop-i in let a = c.args in let e : h.i ≡ length a.more.now = omega arith in (

@@ -4,6 +4,7 @@ use mathlib.Core.Path.{◌≡◌}
 use Prim.Native.Nat.{◌≤◌, ◌-◌}
 use Rattle.text.proofs.put_text.Given as goal
 
+-- the first `i` bytes of the text are pasted
 abbrev pub invariant-loop-i : goal.invariant-loop-i
 invariant-loop-i l = (l.i ≤ length l.text) × (l.out ≡ paste l.initial.out l.at l.text l.i)
 

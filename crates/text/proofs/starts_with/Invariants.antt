@@ -7,6 +7,7 @@ use mathlib.Core.Path.{◌≡◌}
 use Prim.Native.Nat.{◌≤◌, ◌-◌}
 use Rattle.text.proofs.starts_with.Given as goal
 
+-- the bytes before `i` are the word's
 abbrev pub invariant-loop-i : goal.invariant-loop-i
 invariant-loop-i l = (l.i ≤ length l.word) × (all_below l.i (λ k. eqb (byte l.s k) (byte l.word k)) ≡ true)
 
