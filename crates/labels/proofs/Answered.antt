@@ -10,6 +10,7 @@ use lib.ListN.{length, replicate}
 use Rattle.tools.specs.Tests.{pick}
 use Rattle.tools.specs.Lists.{byte, tab}
 use Rattle.ring.specs.Phases.{Pair, lag_of}
+use Rattle.ring.proofs.Ring.{lag_below, lag_by_last}
 use Rattle.rules.specs.declared.Relation.{Relation}
 use Rattle.rules.specs.declared.Compared.{Compared}
 use Rattle.rules.specs.declared.Compared.TheVariants as Compares
@@ -158,6 +159,14 @@ ready s l a b j h own =
       first = phase_below X a b j h own a (one X a b j h own);
       second = phase_below X a b j h own b (two X a b j h own);
     }
+
+-- read where the desk's phase stands, the lag is that of the ring, and below its phases
+pub lag_taken : (s : SetupNumbers) (a b : List ℕ) (j p last r : ℕ) → Between s a b j → p ≡ row_spot + phase_spot j → last + 1 ≡ s.phases
+    → (byte a p ≤ last → r ≡ lag_of (last + 1) (byte b p) (byte a p)) → (r ≡ lag_of s.phases (byte b p) (byte a p)) × (r < s.phases)
+lag_taken s a b j p last r h stands all told =
+    let on_ring : (byte a p < s.phases) × (byte b p < s.phases) = rw stands (h.first, h.second) in
+    let lag_is = lag_by_last s.phases last (byte b p) (byte a p) r all on_ring.0 told in
+    (lag_is, omega (arith, lag_below s.phases (byte b p) (byte a p) on_ring.1, lag_is))
 
 -- two records as they read, and what is asked of them
 module _ (X : Setup) (e f : Option Label) where

@@ -13,7 +13,7 @@
 --   kept_full        where none is, that one is refused by ShelfFull first
 --   may_no_desk      where there is no desk may and the reset are both refused by NoDesk
 --   may_ready        by the right summary of a sound book may never answers BadSummary
-use Prim.Native.Nat.{ℕ, ◌+◌, ◌*◌, ◌-◌, ◌≤◌, ◌<◌}
+use Prim.Native.Nat.{ℕ, ◌+◌, ◌*◌, ◌≤◌, ◌<◌}
 use mathlib.Core.Path.{◌≡◌, refl, sym, ap, ◌∙◌}
 use mathlib.Core.Bool.{Bool, true, false, not, ◌&&◌}
 use mathlib.Core.Option.{Option, none, some}

@@ -34,5 +34,8 @@ slice_bounds-result-end c =
 
 pub returns : goal.returns
 returns c =
-    let a = c.spot-a in let e : a.result + row_size - a.result ≡ row_size = omega arith in record { result_value = ap (λ (n : ℕ). take n (drop a.result c.args.book.now)) e
-          ∙ rw a.ensures (show_part c.args.book.now c.args.slot c.requires); ref_ptr_value = ap (place c.args.book) (a.ensures ∙ show_from c.args.book.now c.args.slot c.requires) }
+    let a = c.spot-a in let e : a.result + row_size - a.result ≡ row_size = omega arith in record {
+      result_value = ap (λ (n : ℕ). take n (drop a.result c.args.book.now)) e
+          ∙ rw a.ensures (show_part c.args.book.now c.args.slot c.requires);
+      ref_ptr_value = ap (place c.args.book) (a.ensures ∙ show_from c.args.book.now c.args.slot c.requires);
+    }

@@ -7,9 +7,10 @@ use Rattle.labels.proofs.pair_reads.Goals as goal
 
 pub returns : goal.returns
 returns c X h =
-    let a = c.args in let j = a.j in
-    let byte = c.shared_slice_known-3-1.given in rw (
-      label_pair a.bytes.now j (omega arith),
+    let j = c.args.j in
+    let byte = c.type_inv.bytes in
+    rw (
+      label_pair c.args.bytes.now j (omega arith),
       c.two_bytes-2.ensures,
       c.two_bytes.ensures,
       c.phase_spot-phase.ensures,

@@ -1,4 +1,3 @@
-use Prim.Native.Nat.{◌-◌}
 use mathlib.Core.Path.{◌≡◌, sym}
 use borrow.Author.Tests.{lt-ltb, le-ltb}
 use native.Mathlib.Omega.{arith}
@@ -15,8 +14,12 @@ loop-c-init c = (omega arith, omega arith, record { size = simp length-set; at =
 
 pub loop-c-preserved : goal.loop-c-preserved
 loop-c-preserved c =
-    let h = c.loop-c in (omega arith, omega arith, filled_more 20 h.c _ h.bytes _ h.invariant.2 (omega arith) (sym (rw (le-ltb h.c 4 (omega arith)))))
+    let h = c.loop-c in
+    (omega arith, omega arith, filled_more 20 h.c _ h.bytes _ h.invariant.2 (omega arith) (sym (rw (le-ltb h.c 4 (omega arith)))))
 
 pub returns : goal.returns
 unfolding tab write_stamp marked_byte row_byte
-returns c = let h = c.loop-c in let e : h.c ≡ 20 = omega arith in filled_all 20 _ h.bytes (rw e at h.invariant.2)
+returns c =
+    let h = c.loop-c in
+    let e : h.c ≡ 20 = omega arith in
+    filled_all 20 _ h.bytes (rw e at h.invariant.2)

@@ -1,4 +1,3 @@
-use Prim.Native.Nat.{◌-◌}
 use mathlib.Core.Path.{◌≡◌}
 use mathlib.Core.Bool.{true}
 use native.Mathlib.Omega.{arith}
@@ -17,10 +16,12 @@ loop-j-init c = (search rules, λ X l. and_none true _)
 
 pub loop-j-preserved : goal.loop-j-preserved
 loop-j-preserved c =
-    let h = c.loop-j in (omega arith, λ X l. and_more true _ h.j _ _ (h.invariant.1 X l) (λ t. c.pair_reads-ok.ensures X l))
+    let h = c.loop-j in
+    (omega arith, λ X l. and_more true _ h.j _ _ (h.invariant.1 X l) (λ t. c.pair_reads-ok.ensures X l))
 
 pub returns : goal.returns
 unfolding row_reads
 returns c X l =
-    let h = c.loop-j in let e : h.j ≡ 8 = omega arith in
+    let h = c.loop-j in
+    let e : h.j ≡ 8 = omega arith in
     rw (row_reads, eq-eqb _ 20 c.if-bytes-ne-RECORD_BYTES.false) (rw e at (h.invariant.1 X l))

@@ -1,12 +1,12 @@
 use mathlib.Core.Path.{sym, ap, ◌∙◌}
 use mathlib.Core.Bool.{Bool, true, false, ◌&&◌}
 use Prim.Native.Nat.{ℕ}
-use mathlib.Core.Logic.{⊎_elim}
 use native.Mathlib.Omega.{arith}
 use Rattle.tools.proofs.Tests.{and_false}
 use Rattle.labels.specs.Counts.{row_reads, head_reads}
 use Rattle.labels.proofs.Counts.{who_is}
 use Rattle.labels.proofs.who_of.Goals as goal
+use Rattle.labels.proofs.who_of.Goals.{else-ok-via-then-ok+else-head_reads, else-ok-via-else-ok}
 
 pub head_reads-requires : goal.head_reads-requires
 head_reads-requires c = c.requires c.if-ok.true
@@ -23,7 +23,10 @@ returns-then-head_reads c X d e =
 pub returns : goal.returns
 returns c X d e =
     who_is X _ false
-    (⊎_elim (λ t.
-    ap (λ (u : Bool). row_reads X c.args.bytes.now && u) (ap (λ (n : ℕ). head_reads n c.args.bytes.now) d ∙ sym t.1.ensures ∙ t.2.left)
-    ∙ and_false (row_reads X c.args.bytes.now))
-    (λ f. rw (sym e ∙ f.left)) c.else-ok.branch)
+    (elim c.else-ok.branch [
+      | else-ok-via-then-ok+else-head_reads w ↦
+          ap (λ (u : Bool). row_reads X c.args.bytes.now && u)
+          (ap (λ (n : ℕ). head_reads n c.args.bytes.now) d ∙ sym w.head_reads.ensures ∙ w.if-head_reads.false)
+          ∙ and_false (row_reads X c.args.bytes.now)
+      | else-ok-via-else-ok w ↦ rw (sym e ∙ w.if-ok.false)
+    ])

@@ -8,7 +8,7 @@ use native.Mathlib.Omega.{arith}
 use lib.ListN.{length, take}
 use mathlib.Core.List.{List, ◌++◌}
 use mathlib.Core.Path.{refl, sym, ap, ◌∙◌}
-use Prim.Native.Nat.{ℕ, ◌-◌, ◌<◌, ◌≤◌}
+use Prim.Native.Nat.{ℕ, ◌<◌, ◌≤◌}
 use Rattle.listing.proofs.feed_lines.Goals as goal
 
 pub loop-stop-init : goal.loop-stop-init
@@ -17,7 +17,9 @@ loop-stop-init c = (refl, refl, c.line_end-stop.ensures, none _ _ (omega arith),
 
 pub overflow_sub-out : goal.overflow_sub-out
 overflow_sub-out c =
-    let inside : c.loop-stop.end ≤ length c.loop-stop.out = omega (arith, c.loop-stop.invariant.3.ends, c.loop-stop.invariant.3.fits, wrote_length c.loop-stop.invariant.3) in
+    -- the text ends within the buffer
+    let wrote = c.loop-stop.invariant.3 in
+    let inside : c.loop-stop.end ≤ length c.loop-stop.out = omega (arith, wrote.ends, wrote.fits, wrote_length wrote) in
     omega (arith, inside)
 
 pub slice_bounds-answer-count : goal.slice_bounds-answer-count
@@ -28,11 +30,13 @@ answer-end-requires c = omega (arith, leb-true)
 
 pub loop-stop-preserved : goal.loop-stop-preserved
 loop-stop-preserved c =
-    let h = c.loop-stop in let a = c.args in let s = start (folder a.book.now a.summary.now) in
+    let h = c.loop-stop in
+    let a = c.args in
+    let s = start (folder a.book.now a.summary.now) in
     let f = folder h.book h.summary in
     let l : h.stop < length a.piece.now = omega arith in (
-      c.answer-end.auto.0 ∙ h.invariant.0,
-      c.answer-end.auto.1.0 ∙ h.invariant.1,
+      c.answer-end.auto.book ∙ h.invariant.0,
+      c.answer-end.auto.summary ∙ h.invariant.1,
       c.line_end-stop-in-loop-stop.ensures,
       rw (more_text answering s f a.piece.now h.from h.stop h.invariant.2 h.invariant.4 l)
           (then h.invariant.3 c.answer-end.ensures.wrote),
@@ -54,8 +58,13 @@ shape_of-out c = wrote_length c.loop-stop.invariant.3
 
 pub returns : goal.returns
 returns c =
-    let h = c.loop-stop in let a = c.args in let s = start (folder a.book.now a.summary.now) in
-    let f = folder h.book h.summary in record { wrote = rw (tail_text answering s f a.piece.now h.from h.stop h.invariant.2 h.invariant.4) h.invariant.3; feeds = record {
+    let h = c.loop-stop in
+    let a = c.args in
+    let s = start (folder a.book.now a.summary.now) in
+    let f = folder h.book h.summary in
+    record {
+      wrote = rw (tail_text answering s f a.piece.now h.from h.stop h.invariant.2 h.invariant.4) h.invariant.3;
+      feeds = record {
         within = h.invariant.2.within;
         few = c.longer.ensures.0;
         left =
@@ -64,4 +73,5 @@ returns c =
             (c.longer.ensures.1
             ∙ ap (λ (n : ℕ). take most (take n c.fresh.result.line ++ part h.from h.stop a.piece.now))
             c.fresh.ensures));
-      } }
+      };
+    }

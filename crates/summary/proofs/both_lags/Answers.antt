@@ -13,12 +13,15 @@ slice_bounds-lags-end c = omega (arith, c.loop-q.invariant.1.size)
 
 pub held_lags-requires : goal.held_lags-requires
 held_lags-requires c =
-    record { book_value = c.requires.book_value; lanes = (
+    record {
+      book_value = c.requires.book_value;
+      lanes = (
         c.requires.lanes,
         omega arith,
         both_zero _ c.loop-q.q c.loop-q.lags c.loop-q.invariant.1 (omega arith)
             (16 * c.loop-q.q + 16 - 16 * c.loop-q.q) (omega arith),
-      ) }
+      );
+    }
 
 pub loop-q-preserved : goal.loop-q-preserved
 loop-q-preserved c =
