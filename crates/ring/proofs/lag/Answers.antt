@@ -4,9 +4,12 @@ use Rattle.ring.proofs.lag.Goals as goal
 
 pub returns-then-own-v : goal.returns-then-own-v
 returns-then-own-v c h =
-    let a = c.args in c.full_lag-lag.ensures ∙ lag_down 256 a.own a.v (omega arith) ∙ sym (lag_down (a.last + 1) a.own a.v (omega arith))
+    let a = c.args in
+    c.full_lag-lag.ensures ∙ lag_down 256 a.own a.v (omega arith) ∙ sym (lag_down (a.last + 1) a.own a.v (omega arith))
 
 pub returns : goal.returns
 returns c h =
-    let full = c.full_lag-lag in let a = c.args in lag_shorter (a.last + 1) 256 a.own a.v full.result _ _ (omega arith) (omega arith) full.ensures
+    let full = c.full_lag-lag in
+    let a = c.args in
+    lag_shorter (a.last + 1) 256 a.own a.v full.result _ _ (omega arith) (omega arith) full.ensures
     c.wrapping_sub_u8.type_inv c.wrapping_sub_u8.ensures.value (omega arith)
