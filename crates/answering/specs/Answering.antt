@@ -6,7 +6,7 @@
 --   wanted_text f o   what a line that wants o prints
 --   line_text f l     what a line of bytes prints
 --   line_folder f l   the book and the papers after a line
---   answering        both, as a stream of lines has them
+--   answering         both, as a stream of lines has them
 use Rattle.std.specs.Prelude.{ℕ, List, eqb, length}
 use Rattle.std.proofs.Math.Option.{Option, none, some}
 use Rattle.tools.specs.Tests.{pick}

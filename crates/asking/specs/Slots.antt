@@ -1,6 +1,6 @@
 -- Slots in the bytes of a book.
 -- Assumes nothing.
---   WayBetween s i k w    w is the way from the stamp in slot i of the bytes s to that in slot k
+--   WayBetween s i k w     w is the way from the stamp in slot i of the bytes s to that in slot k
 --   record_for s k room    the stamp record that write of slot k fills in, where it has so many bytes of room
 use Rattle.std.specs.Prelude.{ℕ, List}
 use Rattle.rules.specs.Model.{write, by_in, row_in, gap_from}

@@ -1,6 +1,6 @@
 -- What every call answers, and every byte that it leaves. The contracts of the portal and demand 3 speak of these two.
 -- Assumes nothing. In words: docs/RULES.md, "Calls".
---   admits s c     the call c does not find a bad book; start asks only the length
+--   admits s c      the call c does not find a bad book; start asks only the length
 --   turn_on s c     what the call does by the rules, on the ring
 --   answer_to s c   the answer to the call c on the bytes s: number and value, BadBook first
 --   book_after s c  the bytes that the call c leaves: the same ones where it is refused

@@ -1,34 +1,34 @@
 -- Where the numbers of a book stand: a header, then a record for each seat, each mail place and each shelf slot.
 -- Assumes nothing. In words: docs/RULES.md, "Bytes".
 --   book_size, head_size, record_size, row_size   how many bytes a book has, its header, a record and a row
---   records          how many records there are
---   seats            how many seats, whose records come first; a row has a pair for each
---   places           how many mail places, and how many shelf slots
+--   records           how many records there are
+--   seats             how many seats, whose records come first; a row has a pair for each
+--   places            how many mail places, and how many shelf slots
 --   mail_from         the record of mail place 0
 --   shelf_from        the record of shelf slot 0
 --   tag_a_spot, tag_b_spot   which byte of a record is its first tag, and which its second: a seat's limit, a mail place's addressee,
---                    filler in a slot
+--                     filler in a slot
 --   row_spot          the byte of a record where its row begins
 --   phase_spot j, clock_spot j   which byte of a row is the phase of desk j, and which the clock
 --   book_mark0, book_mark1   the mark of a book
 --   blank_spot        the byte of the header between P and M, which is filler
 --   spare_from, spare_size   the byte of the header where the filler at its end begins, and how many bytes it has
---   Record           the two tags and the row of a record
---   Fields           the setup and the records
---   spot k c         where byte c of record k stands
+--   Record            the two tags and the row of a record
+--   Fields            the setup and the records
+--   spot k c          where byte c of record k stands
 --   phases_byte P     P as its byte in the header, and the P that such a byte tells: 0 and 256 stand for each other, any other for itself
 --   head_byte X i     byte i of the header of a book with the setup X
---   mark0, mark1     the mark of a record
+--   mark0, mark1      the mark of a record
 --   marked_byte x y r c   byte c of a record of twenty bytes: the mark x, y, then the tags and the row of r
 --   record_byte k r c byte c of record k, whose tags and row are r
 --   byte_of f i       byte i of the fields f: in the header, or in its record
---   layout f         the bytes of the fields f
+--   layout f          the bytes of the fields f
 --   limits_of b       the limits that the bytes b tell: of the eight seats' second tags the first D
 --   setup_of b        the setup that the bytes b tell
 --   row_at b k        the row that the bytes b tell in record k
---   fields b         the fields of the bytes b
---   Holds f b        the bytes b are those of the fields f
---   post b k x y row the bytes b with the tags x and y and the row bytes in record k
+--   fields b          the fields of the bytes b
+--   Holds f b         the bytes b are those of the fields f
+--   post b k x y row  the bytes b with the tags x and y and the row bytes in record k
 use Rattle.std.specs.Prelude.{ℕ, ◌+◌, ◌*◌, ◌-◌, ◌/◌, ◌%◌, ◌<◌, ◌≡◌, List, [], ◌∷◌, ltb, eqb, length, set, take}
 use Rattle.tools.specs.Tests.{pick}
 use Rattle.tools.specs.Lists.{byte, tab, mid}

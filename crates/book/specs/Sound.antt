@@ -14,7 +14,7 @@
 --   head_ok b           the header's mark and its filler, between P and M and at its end
 --   record_sound lag b k   the mark of record k, and what is asked of it
 --   sound_by lag b      the bytes are those of a sound book, by the given lag
---   sound b            the bytes are those of a sound book: by lag_of
+--   sound b             the bytes are those of a sound book: by lag_of
 use Rattle.std.specs.Prelude.{ℕ, ◌+◌, ◌*◌, Bool, true, not, List, [], ◌∷◌, leb, ltb, eqb, length}
 use Rattle.tools.specs.Tests.{pick, all_of, all_below}
 use Rattle.tools.specs.Lists.{byte}

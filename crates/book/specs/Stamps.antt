@@ -7,7 +7,7 @@
 --   read_ok X r        the bytes r read as a record under the setup X, clause by clause
 --   label_of r         the stamp that the record r tells
 --   read_stamp X r     the stamp, or none where r does not read
---   filled t w        the bytes t with those of w in front, the rest as they were
+--   filled t w         the bytes t with those of w in front, the rest as they were
 use Rattle.std.specs.Prelude.{ℕ, Bool, List, [], ◌∷◌, ◌++◌, ltb, eqb, length, drop}
 use Rattle.std.proofs.Math.Option.{Option, none, some}
 use Rattle.tools.specs.Tests.{pick, all_of, all_below}

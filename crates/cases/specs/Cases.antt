@@ -2,10 +2,10 @@
 -- resets, runs whose mails tell more or less, runs that ask for pictures, runs of desks with different limits, a run round the full
 -- ring, and one for each refusal that these leave out. Refusals are by their literal numbers.
 -- Assumes nothing.
---   case_setup P A     the setup of the cases with a ring of P, and kept stamps that may lag A; X, that with 5 and 4
+--   case_setup P A    the setup of the cases with a ring of P, and kept stamps that may lag A; X, that with 5 and 4
 --   uneven            X with m of 1 and n of 3
 --   narrow, small     two desks that may lag one phase, as in the listing; the same with clocks and a reach to spare
---   limited_to l k     X with two desks, of the limits l and k
+--   limited_to l k    X with two desks, of the limits l and k
 --   pair v t          the pair v.t
 --   Made, Shown       a stamp, and a value, as the listing shows it
 --   event p j ps      a stamp, with the place p where it has one
@@ -16,7 +16,7 @@
 --   Line              a number, and what is shown with it
 --   told v, refused n an accepted line that shows v; the line of the refusal numbered n
 --   Case              calls one after another, and the lines that answer them
---   turn_line t        the line of a turn
+--   turn_line t       the line of a turn
 --   answers b c       what the ring answers to the calls of the case c, from the book b on
 --   opened X cs ls    the case of the calls cs after an accepted start
 --   starred           the cases of calls, by their numbers; there is no 5
@@ -28,20 +28,20 @@
 --   letters           runs whose mails tell of no desk, of one and of two
 --   three s t u       the call picture, of the slots s, t and u for desks 0, 1 and 2
 --   pictures          runs that ask for pictures: closed ones, each two desks at odds, and what refuses them
---   last_sent          desk 0 sends desk 1 its last clock, under the limits 4 and 2
+--   last_sent         desk 0 sends desk 1 its last clock, under the limits 4 and 2
 --   limits            runs of two desks with different limits, by their numbers
---   byte_ring P A      two desks that may lag 127 phases on a ring of P, kept stamps A
+--   byte_ring P A     two desks that may lag 127 phases on a ring of P, kept stamps A
 --   turns n           n resets of desk 0; turn_lines v n, their lines, from the phase v on
---   up_to n            the numbers below n
+--   up_to n           the numbers below n
 --   round             the full ring, rings that are not permitted, and a run of desk 0 once round the full one, by their numbers
 --   filling           32 kept events of desk 0, which fill the shelf; filled, their lines
 --   room              runs on places and slots: full ones, freed ones, and a stamp written or kept too long
 --   all               all of these
 --   took v t          v.0 is taken, and t says whether the held pair changed
---   later_of own       what is taken of phases 4 and 0, the first held, and of 0 and 4, on a ring of 5, at that own phase
+--   later_of own      what is taken of phases 4 and 0, the first held, and of 0 and 4, on a ring of 5, at that own phase
 --   apart up down     a difference within reach
---   stamp_at v t       a stamp of desk 0 with the pairs v.t
---   reach_from v t vs  the differences off the book from that stamp to those of the phases vs; numbers_from, the numbers of before
+--   stamp_at v t      a stamp of desk 0 with the pairs v.t
+--   reach_from v t vs the differences off the book from that stamp to those of the phases vs; numbers_from, the numbers of before
 --   Cases             the one statement: every case is answered as its lines say, whatever book it begins on
 use Rattle.std.specs.Prelude.{◌≡◌, Bool, true, false, List, [], ◌∷◌, ◌++◌, map, ℕ, zero, suc, ◌+◌, replicate}
 use Rattle.std.proofs.Math.Option.{Option, none, some}

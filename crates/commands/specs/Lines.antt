@@ -1,23 +1,23 @@
 -- A line of the listing: a verb, then numbers of exactly three digits, with single spaces, and nothing else.
 -- Assumes nothing. In words: docs/RULES.md, "Listing".
---   shaped l w n     the line is the word w and n numbers
+--   shaped l w n      the line is the word w and n numbers
 --   count_after l w   how many numbers a line has after the word w, by its length: four bytes for each
---   Wanted           what a line asks for
---   makes c          that the call c is made on the book
+--   Wanted            what a line asks for
+--   makes c           that the call c is made on the book
 --   asks_may d        whether the desk d may reset, which is asked of a summary and no call on the book
---   Verb             a word, how many numbers it takes, and what is asked for with them
---   wish q c         the call of the event c of a yes or no: 1 is yes, 0 no, any other number makes none
---   events           the verbs of the four events, whose last number says whether to keep the stamp
---   filings          those that free a slot or a place
---   questions        those that ask about two slots, and may, which asks about a desk
+--   Verb              a word, how many numbers it takes, and what is asked for with them
+--   wish q c          the call of the event c of a yes or no: 1 is yes, 0 no, any other number makes none
+--   events            the verbs of the four events, whose last number says whether to keep the stamp
+--   filings           those that free a slot or a place
+--   questions         those that ask about two slots, and may, which asks about a desk
 --   setup_from ns     the setup that D and P, any number of limits, M, A, m and n make
---   miscounted X     D is from 2 to 8, and there are other than D limits
+--   miscounted X      D is from 2 to 8, and there are other than D limits
 --   start_of ns       the call of the numbers of a start; none where its limits are miscounted
 --   picture_of ns     the call of the slots of a picture
---   lists            the verbs that take any number of numbers: start, whose limits are between six others, and picture
---   verbs            all verbs
---   asks l v         the line asks for the verb v: it is its word, and as many numbers as it takes
---   choose vs l      what the first verb that the line asks for makes of its numbers; none where it asks for none
+--   lists             the verbs that take any number of numbers: start, whose limits are between six others, and picture
+--   verbs             all verbs
+--   asks l v          the line asks for the verb v: it is its word, and as many numbers as it takes
+--   choose vs l       what the first verb that the line asks for makes of its numbers; none where it asks for none
 --   parse_of l        what a line asks for; none for a line over 64 bytes or of any other shape, a BadLine
 --   limits_at         where the limits of a start begin in its line
 --   slots_at          where the slots of a picture begin in its line

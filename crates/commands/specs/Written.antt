@@ -1,13 +1,13 @@
 -- A call, or may, written out as a line.
 -- Assumes nothing.
---   fields ns       a space and three digits for each number
+--   fields ns        a space and three digits for each number
 --   word_of a        the verb of what is asked for; no word for show and write, which no line asks for
 --   wish_number q    1 for yes, 0 for no
 --   numbers_of a     its numbers, in the order of its line
 --   text_of a        its line
---   Counted a       of a start, its limits are not miscounted
---   Spoken a        it has a verb, its limits are not miscounted, and its line is not over 64 bytes
---   Small ns        each number has at most three digits
+--   Counted a        of a start, its limits are not miscounted
+--   Spoken a         it has a verb, its limits are not miscounted, and its line is not over 64 bytes
+--   Small ns         each number has at most three digits
 use Rattle.std.specs.Prelude.{ℕ, ◌≤◌, ◌<◌, ◌≡◌, Bool, false, List, [], ◌∷◌, ◌++◌, length}
 use Rattle.tools.specs.Tests.{pick}
 use Rattle.tools.specs.Lists.{byte}

@@ -1,6 +1,6 @@
 -- One way of a comparison: from the stamp of an owner to the other stamp.
 -- Assumes nothing.
---   gap_of w              the difference that the way w has
+--   gap_of w             the difference that the way w has
 --   Clocked w j e f      the clocks of w are those of the rows e and f at desk j
 --   WayOf X g j e f w    w is the way from the row e of desk j to the row f under the setup X, g the difference that is asked for
 use Rattle.std.specs.Prelude.{◌≡◌, ℕ}

@@ -1,27 +1,27 @@
 -- The C interface: a call's value goes into buffers that the caller lends, and a buffer too short is one more reason.
 -- Assumes nothing. In words: docs/RULES.md, "C interface".
 --   numbers_by D P M A m n   the six numbers of a setup
---   relation_byte r   the byte of a relation
+--   relation_byte r  the byte of a relation
 --   one n            the byte n
 --   wished n         whether a caller who gives the number n wishes to keep the stamp: 0 is no, any other yes
---   byte_in v         the one byte of the yes or no, or relation in a value; 0 where it names two desks at odds
---   odds_in v         the bytes of the two desks at odds in a value, the lower one first; none where it names none
+--   byte_in v        the one byte of the yes or no, or relation in a value; 0 where it names two desks at odds
+--   odds_in v        the bytes of the two desks at odds in a value, the lower one first; none where it names none
 --   place_in v, learnt_in v, slot_byte v   the one byte of the place, of the number of desks learnt of, of the slot in a value; none
 --                    where it has none
---   which_byte w      the byte of one of two records, or of neither
---   which_in v        the byte of the newest of two records that a value relates; none where it relates none
---   foretold_in v     the one byte of the number that a reset would be answered, in a value; none where it has none
+--   which_byte w     the byte of one of two records, or of neither
+--   which_in v       the byte of the newest of two records that a value relates; none where it relates none
+--   foretold_in v    the one byte of the number that a reset would be answered, in a value; none where it has none
 --   Lent, lent n f t t'   a buffer that the caller lends for a value: it must have n bytes, f tells those of the value, and the
 --                    whole buffer is t before the call and t' afterwards
 --   byte_to t t', which_to t t', row_to t t'   the buffer is lent for a byte, for the newest of two records, for sixteen row bytes
 --   place_to t t', learnt_to t t'   the buffer is lent for a place, for the number of desks learnt of
---   odds_to t t'      the buffer is lent for two desks at odds
---   foretold_to t t'  the buffer is lent for the number that a reset would be answered
---   slot_to q t t'    the buffer is lent for the slot of an event: it must have a byte where the event is to be kept, q
---   record_to D t t'  the buffer is lent for a stamp record with the number D of desks
---   stamp_to s t t'   the buffer is lent for a stamp record with the D of the book s
+--   odds_to t t'     the buffer is lent for two desks at odds
+--   foretold_to t t' the buffer is lent for the number that a reset would be answered
+--   slot_to q t t'   the buffer is lent for the slot of an event: it must have a byte where the event is to be kept, q
+--   record_to D t t' the buffer is lent for a stamp record with the number D of desks
+--   stamp_to s t t'  the buffer is lent for a stamp record with the D of the book s
 --   short ls         one of the lent buffers ls is too short
---   or_no_room n       NoRoom or the number n, whichever is smaller; 0 is no reason
+--   or_no_room n     NoRoom or the number n, whichever is smaller; 0 is no reason
 --   cramped q a      the answer a to a call, with NoRoom as one more reason where q holds: a lent buffer is too short
 --   Fills ls v       each of the lent buffers ls has its bytes of the value v in front afterwards, and the rest as it was
 --   Gets a ls n      what a caller gets who is answered a: the number n, and every byte of the lent buffers ls

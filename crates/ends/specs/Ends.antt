@@ -1,15 +1,15 @@
 -- How the program meets its two ends, standard input and standard output.
 -- Assumes nothing.
 --   failure_went e bad   what becomes of the run where a call fails for the system's reason e: EAGAIN (11) and EINTR (4) go on, as the
---                       call is made again, EPIPE (32) says that nobody reads any more, any other reason is `bad`
+--                        call is made again, EPIPE (32) says that nobody reads any more, any other reason is `bad`
 --   call_went got e none bad   the same of a call that answers `got` bytes, or less than 0 where it fails; `none` where it moves none
 --   read_went got e      the same of a read: no byte is the end of the input
 --   write_went got e     the same of a write, which moves a byte or fails
---   Told w n            the run went w where n bytes of what it prints are not written: it goes on only where there are none
---   Goes u v w n        the run had gone v, and goes w with n bytes unwritten: where v is u, what that prints is told; else it goes as it
---                       had, and prints nothing
+--   Told w n             the run went w where n bytes of what it prints are not written: it goes on only where there are none
+--   Goes u v w n         the run had gone v, and goes w with n bytes unwritten: where v is u, what that prints is told; else it goes as it
+--                        had, and prints nothing
 --   end_book w s         the book and papers at the end of a run that went w, from the state s on: only the end of the input answers a
---                       begun line
+--                        begun line
 --   word_of w            what the program says on standard error at its end, before the system's reason; no word where it is quiet
 use Rattle.std.specs.Prelude.{ℕ, zero, suc, ◌<◌, ◌≡◌, ◌||◌, List, [], ℤ, pos, negsuc, eqb}
 use Rattle.tools.specs.Tests.{pick}

@@ -3,17 +3,17 @@
 -- Assumes nothing. In words: docs/RULES.md, "As if phases never came round".
 --   reset_at h j e       the event e is a reset of desk j
 --   reset_before h j e   the last reset of desk j before the event e; none where there is none
---   found n r           the number r where it is below n, else none
+--   found n r            the number r where it is below n, else none
 --   reset_after h j e    the first reset of desk j after the event e; none where the log has none
---   onward f o          f of what o holds; none where it holds nothing
---   repeat f n e        n times f, from e on; none where one of them is
---   previous h m e      PR^m of e: the m-th reset strictly before e at its desk; none, the beginning, where there are fewer
---   following h n e     NX^n of e: the n-th reset after e there; none where there are fewer
---   Reached h m n x y   PR^m of x is the beginning, is y or leads to y, and NX^n of x neither is y nor leads to y
---   R h m n x y         the comparison predicate R(m,n): PR^m of x is the beginning or leads to y, and NX^n of x does not lead to y
---   Meets h m n x y     the question from x to y meets the contract: R(m,n), and y is not NX^n of x itself
---   Close X b B r       in the row r every phase lags at most B behind its desk's own, and every clock is below its desk's limit
---   Pattern X b         every row of a desk's seat is close by M, of waiting mail by 2M, of a used slot by A
+--   onward f o           f of what o holds; none where it holds nothing
+--   repeat f n e         n times f, from e on; none where one of them is
+--   previous h m e       PR^m of e: the m-th reset strictly before e at its desk; none, the beginning, where there are fewer
+--   following h n e      NX^n of e: the n-th reset after e there; none where there are fewer
+--   Reached h m n x y    PR^m of x is the beginning, is y or leads to y, and NX^n of x neither is y nor leads to y
+--   R h m n x y          the comparison predicate R(m,n): PR^m of x is the beginning or leads to y, and NX^n of x does not lead to y
+--   Meets h m n x y      the question from x to y meets the contract: R(m,n), and y is not NX^n of x itself
+--   Close X b B r        in the row r every phase lags at most B behind its desk's own, and every clock is below its desk's limit
+--   Pattern X b          every row of a desk's seat is close by M, of waiting mail by 2M, of a used slot by A
 use Rattle.std.specs.Prelude.{◌≡◌, Bool, ◌&&◌, ℕ, zero, suc, ◌+◌, ◌*◌, ◌≤◌, ◌<◌, ltb, eqb}
 use Rattle.std.proofs.Math.Option.{Option, none, some}
 use Rattle.tools.specs.Tests.{pick, lowest}

@@ -2,7 +2,7 @@
 -- Assumes nothing. In words: docs/RULES.md, "As if phases never came round".
 --   Kind           which of the four events; a receive with the number of its send
 --   cause w        the send that a receive takes in
---   is_reset w      the event is a reset
+--   is_reset w     the event is a reset
 --   Log            the accepted events since the last accepted start, numbered from 0
 --   History        a log, and the event behind each mail place and each slot
 --   none_yet       the history after a start
@@ -14,7 +14,7 @@
 --   begin X        the state after a start with the setup X
 --   history_of s c what an accepted call makes of the history
 --   next s c       the state after a call, its history as it was where the call is refused; after s cs, after a list of calls
---   log_after X cs  the log of the calls cs, from a fresh book of X on; setup_after X cs, the setup then
+--   log_after X cs the log of the calls cs, from a fresh book of X on; setup_after X cs, the setup then
 use Rattle.std.specs.Prelude.{◌≡◌, Bool, true, false, List, [], ◌∷◌, ℕ, suc, ◌<◌}
 use Rattle.std.proofs.Math.Option.{Option, none, some}
 use Rattle.tools.specs.Tables.{put, put_at}

@@ -1,9 +1,9 @@
 -- A map of phases, desk by desk, in rows, tables and answers; the coming round is one.
 -- Assumes nothing. In words: docs/RULES.md, "As if phases never came round".
---   φ k v                what the phase v of desk k becomes
+--   φ k v                 what the phase v of desk k becomes
 --   map_pair, map_row, map_seat, map_held, map_tables   a pair, a row, a seat, what is held, the tables, with every phase mapped
 --   map_stamp, map_shown, map_value, map_answer, map_result   a stamp or a row in a value, a value, an answer, a result, likewise
---   modulo P             the map that is the coming round on a ring of P
+--   modulo P              the map that is the coming round on a ring of P
 --   round_row, round_tables, round_result, round_answer   the same with phases come round on a ring of P
 --   round_book b          the book b come round on the ring of its setup
 --   round_turn b t        the turn t of a call on the book b, come round

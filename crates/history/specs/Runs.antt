@@ -1,9 +1,9 @@
 -- Runs: calls one after another, from a book on.
 -- Assumes nothing.
---   run Z b cs      the turns of the calls cs, from the book b on
---   left Z b cs     the book that they leave
+--   run Z b cs       the turns of the calls cs, from the book b on
+--   left Z b cs      the book that they leave
 --   round_run b ts   the turns ts, from the book b on, with every phase come round
---   numbers ts      the numbers that the turns ts answer
+--   numbers ts       the numbers that the turns ts answer
 use Rattle.std.specs.Prelude.{List, [], ◌∷◌, map, ℕ}
 use Rattle.ring.specs.Phases.{Phases}
 use Rattle.rules.specs.Setups.{Setup}

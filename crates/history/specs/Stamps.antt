@@ -1,13 +1,13 @@
 -- Stamps that a run has answered, and the event of each.
 -- Assumes nothing.
---   label_held w        the stamp that a used slot holds: its owner and its row
+--   label_held w       the stamp that a used slot holds: its owner and its row
 --   StampOf X h x e    e is the stamp of the event x, its phases come round
---   owner_at b o        the owner of the stamp in the slot o, which a question asks of
---   or_shown o e r      the stamp e, or where there is none the row r with the owner o
---   stamp_in o v        the stamp in a value; o is the owner of a row that stands alone, as show answers it
---   stamp_given b c     the stamp that the ring answers to the act c on the book b
---   event_at h o        the event behind the slot o, or where there is none the next one of the history h
---   event_of h c        the event of that stamp: the one that c adds to the history h, or the one behind the slot
+--   owner_at b o       the owner of the stamp in the slot o, which a question asks of
+--   or_shown o e r     the stamp e, or where there is none the row r with the owner o
+--   stamp_in o v       the stamp in a value; o is the owner of a row that stands alone, as show answers it
+--   stamp_given b c    the stamp that the ring answers to the act c on the book b
+--   event_at h o       the event behind the slot o, or where there is none the next one of the history h
+--   event_of h c       the event of that stamp: the one that c adds to the history h, or the one behind the slot
 --   Ongoing cs         no start among the calls cs is accepted
 --   Answered X cs e x  the calls cs, from a fresh book of X on, answer the stamp e of event x, and then accept no start
 use Rattle.std.specs.Prelude.{◌≡◌, false, List, [], ◌∷◌, ◌++◌, ℕ, ◌<◌}

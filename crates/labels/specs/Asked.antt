@@ -1,7 +1,7 @@
 -- What the calls off the book ask of two records, before their answer.
 -- Assumes nothing.
---   owner_read o        the owner of the stamp o that a record tells, or the refusal where it tells none
---   refusal_in w        the number of the refusal w; 0 of an owner
+--   owner_read o       the owner of the stamp o that a record tells, or the refusal where it tells none
+--   refusal_in w       the number of the refusal w; 0 of an owner
 --   Both X a b         the setup X is permitted, and the bytes a and b read as records
 --   Between s a b j    the way from the record a of desk j to the record b can be fetched under the numbers s
 --   WayRead X a b j w  w is the way from the record a of desk j to the record b

@@ -1,8 +1,8 @@
 -- What the bytes of a stamp record are held to, in the order in which they are read.
 -- Assumes nothing.
---   capped n        n, as far as the numbers of a byte go: 256 of them
+--   capped n         n, as far as the numbers of a byte go: 256 of them
 --   count_row D P ls how many phases and clocks each of D desks has, by P phases and the limits ls; where there is no desk one, 0 alone
---   Counts X l      l has the numbers of that row under the setup X
+--   Counts X l       l has the numbers of that row under the setup X
 --   row_reads X r    the bytes r have a record's length, and every pair is in range
 --   head_reads D r   the mark, the owner and the number of desks of the record r are those of a setup with D desks
 use Rattle.std.specs.Prelude.{ℕ, ◌≡◌, Bool, ◌&&◌, List, [], ◌∷◌, ltb, eqb, length}

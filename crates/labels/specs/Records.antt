@@ -1,11 +1,11 @@
 -- What reading a record says, which stamps a record can tell, and what newest hands back.
 -- Assumes nothing.
---   read_as o         the answer to reading a record that tells the stamp o, or none: BadStamp
---   owner_says w l    what the owner or refusal w says, with the row bytes l beside it
---   read_says r       what the reading r says: its number and stamp
---   row_beside w l    the row bytes l beside w: blank where it is a refusal
+--   read_as o        the answer to reading a record that tells the stamp o, or none: BadStamp
+--   owner_says w l   what the owner or refusal w says, with the row bytes l beside it
+--   read_says r      what the reading r says: its number and stamp
+--   row_beside w l   the row bytes l beside w: blank where it is a refusal
 --   Readable X e     the stamp e is one that a record can tell under the setup X: in range, and zero where there is no desk
---   newest_of X a b   which of the records a and b newest hands back
+--   newest_of X a b  which of the records a and b newest hands back
 --   HandedBack w a b r   the slice r is what w names of the slices a and b, the caller's own bytes: a, b, or an empty part of a
 use Rattle.std.specs.Prelude.{◌≡◌, true, List, [], ℕ, ◌<◌, replicate}
 use Rattle.std.proofs.Math.Option.{Option, none, some}

@@ -1,13 +1,13 @@
 -- What a call of the office answers, and every byte that it leaves of the book and of the papers beside it.
 -- Assumes nothing. In words: docs/RULES.md, "The office".
---   Folder            the book and the papers beside it, all of them bytes; a further paper is a further part
---   folder s m        the book s with the summary m
+--   Folder             the book and the papers beside it, all of them bytes; a further paper is a further part
+--   folder s m         the book s with the summary m
 --   summary_at f c     the summary at the call c: it is made anew of the book that the call leaves
 --   papers_at f c      the papers that the call c asks; a question asks none
 --   office_reasons f c   when which number is given: BadBook, the call's own reasons, those of the papers
 --   office_answer f c  the answer to the call c: the book's, but for the papers' reasons, which come last
 --   folder_after f c   the book and the papers that the call c leaves: as they were where it is refused
---   RightAll f        every paper is right of the book
+--   RightAll f         every paper is right of the book
 use Rattle.std.specs.Prelude.{ℕ, not, List, [], ◌∷◌, ◌++◌}
 use Rattle.tools.specs.Tests.{pick}
 use Rattle.tools.specs.Reasons.{Reason, if_done}

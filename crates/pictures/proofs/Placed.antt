@@ -1,11 +1,11 @@
 -- Two places of a list, by the table of its stamps.
 -- Assumes nothing.
---   turned       the same two the other way round
+--   turned           the same two the other way round
 --   owner_at_lem     the owner of the first
---   slot_at      the slot of the second is one of the shelf
---   on_ring      the phases that a lag is taken of are on the ring
---   lag_at       the lag of the second's pair for the first's desk
---   far_at       whether it is out of reach
+--   slot_at          the slot of the second is one of the shelf
+--   on_ring          the phases that a lag is taken of are on the ring
+--   lag_at           the lag of the second's pair for the first's desk
+--   far_at           whether it is out of reach
 --   far_pair, odd_pair   what a pair shows
 --   far_none, odd_none   a place that is not above the other shows nothing
 --   more_at, more_equal   whether the second knows more, where the lags differ and where they are equal

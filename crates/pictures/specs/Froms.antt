@@ -1,16 +1,16 @@
 -- What all ways from one stamp of a list share, and a table of it for the whole list.
 -- Assumes nothing.
---   most_by up r       the largest lag below up + r, 255 where that is larger: no lag is
---   from_of s k        of the stamp in slot k of the bytes s: its owner, the owner's phase, how far its own pair lags and its clock; the
+--   most_by up r      the largest lag below up + r, 255 where that is larger: no lag is
+--   from_of s k       of the stamp in slot k of the bytes s: its owner, the owner's phase, how far its own pair lags and its clock; the
 --                     least and the largest lag of another stamp's pair that is within reach
---   parts_of f         these six, in this order
---   table_of s l x     number x of the table of the list l: part x / 8 of its stamp x % 8
+--   parts_of f        these six, in this order
+--   table_of s l x    number x of the table of the list l: part x / 8 of its stamp x % 8
 --   Table s l n t     the table t has the first n stamps of the list l
 --   Ready s l         the bytes s are sound, and the list l names at most eight slots, all used
 --   Places s l t i k  the same with the table t of the list, and two of its places
---   lag_to s l i k     how far the pair for the desk of the list's i-th stamp lags in its k-th
+--   lag_to s l i k    how far the pair for the desk of the list's i-th stamp lags in its k-th
 --   beyond t i d      by the table t, the lag d is out of reach from the i-th stamp
---   more_to s l i k    the k-th stamp knows more of the desk of the i-th
+--   more_to s l i k   the k-th stamp knows more of the desk of the i-th
 use Rattle.std.specs.Prelude.{ℕ, ◌+◌, ◌-◌, ◌/◌, ◌%◌, ◌<◌, ◌≤◌, ◌≡◌, Bool, true, false, ◌||◌, List, [], ◌∷◌, ltb, eqb, length}
 use Rattle.tools.specs.Tests.{pick}
 use Rattle.tools.specs.Lists.{byte}

@@ -1,8 +1,8 @@
 -- A record that is freed.
 -- Assumes nothing.
---   cleared s k      the bytes s with 18 zeros behind the mark of record k
+--   cleared s k       the bytes s with 18 zeros behind the mark of record k
 --   free_after s a p  the bytes that are left where the p-th of the records from record a on is to be freed: the same ones where
---                    that is refused
+--                     that is refused
 use Rattle.std.specs.Prelude.{ℕ, ◌+◌, List}
 use Rattle.tools.specs.Reasons.{if_done}
 use Rattle.rules.specs.Model.{zeros}

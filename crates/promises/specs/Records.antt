@@ -1,9 +1,9 @@
 -- Stamp records that a run over bytes has given out, and the event of each.
 -- Assumes nothing.
---   stamp_from s c        the stamp that the act c is answered on the bytes s: by an event, or by show or write of a slot
+--   stamp_from s c       the stamp that the act c is answered on the bytes s: by an event, or by show or write of a slot
 --   Recorded s X cs r x  r is the record of a stamp that one of the calls cs was answered, the stamp of the event x; the calls
 --                        begin with an accepted start of X on the bytes s, and no later start is accepted
---   read_under X cs       the setup under which the records of the run are read: that of its last accepted start
+--   read_under X cs      the setup under which the records of the run are read: that of its last accepted start
 --   NewestIs X h x y r q  newest of the records r and q hands back that of the later event, the first's if they are one event
 use Rattle.std.specs.Prelude.{◌≡◌, List, ◌∷◌, ◌++◌, ℕ}
 use Rattle.std.proofs.Math.Option.{Option, some}

@@ -2,9 +2,9 @@
 -- one statement: computed on the model, and carried to bytes.
 -- Assumes nothing.
 --   fourth_record      the bytes of case 4; sixteenth_record, those of case 16
---   receipt b         the stamp of the receipt of case 15, begun on the book b
+--   receipt b          the stamp of the receipt of case 15, begun on the book b
 --   compared_under X   the number that compare off the book gives under the setup X, of the record of case 16 and itself
---   Starred           the statement
+--   Starred            the statement
 use Rattle.std.specs.Prelude.{◌≡◌, true, false, List, [], ◌∷◌, map, ℕ, length}
 use Rattle.std.proofs.Math.Option.{Option}
 use Rattle.tools.specs.Lists.{listed}

@@ -1,6 +1,6 @@
 -- The reasons that several acts have in common, asked before their own.
 -- Assumes nothing.
---   asked s t n       BadBook where the bytes s are not sound, else n where t holds, else 0
+--   asked s t n        BadBook where the bytes s are not sound, else n where t holds, else 0
 --   desk_number s j    what is due of desk j alone: BadBook, NoDesk, or 0
 --   slots_number s i k what is due of the slots i and k alone: BadBook, NoPlace, or 0
 --   list_number s l    what is due of the list l of slots alone: BadBook, NoPlace, or 0

@@ -1,8 +1,8 @@
 -- What an event is granted before anything is changed: its number, and the slot for its stamp.
 -- Assumes nothing.
---   granted n k       the number n with the slot k
---   grant s n q       the number n, and where it is 0 the slot for an event on the bytes s: the lowest free one where it is kept, q; 32,
---                     which is none, where it is not or is refused
+--   granted n k        the number n with the slot k
+--   grant s n q        the number n, and where it is 0 the slot for an event on the bytes s: the lowest free one where it is kept, q; 32,
+--                      which is none, where it is not or is refused
 --   shelf_grant s q    what is granted by the shelf alone: ShelfFull where it is to be kept and no slot is free
 --   grant_of s c q     what the event c is granted, which is kept or not as q says
 use Rattle.std.specs.Prelude.{ℕ, Bool, List}

@@ -1,17 +1,17 @@
 -- An answer as a line: its number, on 000 what goes with it, a newline. All numbers have three digits; a space stands before
 -- each later field.
 -- Assumes nothing. In words: docs/RULES.md, "Listing".
---   pair p c          a space and a pair, phase.clock
---   pairs D r         the pairs of the first D desks
+--   pair p c           a space and a pair, phase.clock
+--   pairs D r          the pairs of the first D desks
 --   stamp_text D o r   the owner and D pairs
 --   word_text w        a space and the relation in words
 --   verdict_text t     a space and yes or no
 --   odds_text o        the two desks at odds, the lower one first
 --   foretold_text n    a space, and yes where the number n is 0, else the number
---   then s f o        the text s, and behind it f of what o holds, if it holds something
+--   then s f o         the text s, and behind it f of what o holds, if it holds something
 --   answer_text D a    the line in a book of D desks: the number, then each part of the value that is there
---   longest           the bytes of the longest line: number, owner, eight pairs, a place or a number of desks, slot and newline
---   Printable D a     there are at most eight desks, where their pairs may be asked for
+--   longest            the bytes of the longest line: number, owner, eight pairs, a place or a number of desks, slot and newline
+--   Printable D a      there are at most eight desks, where their pairs may be asked for
 use Rattle.std.specs.Prelude.{ℕ, zero, suc, ◌≤◌, ◌≡◌, Bool, true, false, List, [], ◌∷◌, ◌++◌, eqb}
 use Rattle.std.proofs.Math.Option.{Option, none, some}
 use Rattle.tools.specs.Tests.{pick}

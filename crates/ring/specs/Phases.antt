@@ -1,17 +1,17 @@
 -- The arithmetic of phases: on a ring of P, and on a line, where phases never come round.
 -- Assumes nothing. In words: docs/RULES.md, "Phases".
---   Pair               a phase and a clock
---   Lag                a way to take a lag: of P, the own phase and a phase
+--   Pair                a phase and a clock
+--   Lag                 a way to take a lag: of P, the own phase and a phase
 --   lag_of P own v      how far the phase v lags behind the phase own, on a ring of P
 --   next_of P v         the phase after v, on a ring of P
---   Phases             an arithmetic of phases: a lag and a next
---   ring P, line       the two
---   Gap                a difference of phases, up minus down
+--   Phases              an arithmetic of phases: a lag and a next
+--   ring P, line        the two
+--   Gap                 a difference of phases, up minus down
 --   later_by d ce cf    f is later than e, by the difference d from e to f: d above 0, or 0 and the larger clock
 --   lag_gap Z own e f   the difference from pair e to pair f of a desk whose own phase is own: lag of e minus lag of f
 --   is_later Z own f e  f is later than e: a smaller lag, and at equal lag the larger clock
---   Taken              the pair that is taken of two, and whether the held one changed
---   later Z own e f    what is taken of the held pair e and another, f: f where it is later, and then e has changed; else e
+--   Taken               the pair that is taken of two, and whether the held one changed
+--   later Z own e f     what is taken of the held pair e and another, f: f where it is later, and then e has changed; else e
 use Rattle.std.specs.Prelude.{ℕ, ◌+◌, ◌-◌, ◌%◌, Bool, ◌&&◌, ◌||◌, ◌==◌, nat_le, nat_lt}
 use Rattle.tools.specs.Tests.{pick}
 

@@ -1,7 +1,7 @@
 -- The lag as a remainder, which the handbook's two lines are held against. No call takes it.
 -- Assumes nothing. In words: docs/RULES.md, "Phases".
 --   remainder_of P own v   own minus v, modulo P
---   remainders P          the ring of P with that lag
+--   remainders P           the ring of P with that lag
 use Rattle.std.specs.Prelude.{ℕ, ◌+◌, ◌-◌, ◌%◌}
 use Rattle.ring.specs.Phases.{Lag, Phases, next_of}
 

@@ -1,13 +1,13 @@
 -- Rows in the bytes of a book.
 -- Assumes nothing.
---   AtDesk s j      the bytes s are a sound book, which has a seat j
+--   AtDesk s j      the   bytes s are a sound book, which has a seat j
 --   Grows s j       besides, j's own clock may grow and still be a byte
---   taken_at s d m k     what is taken for desk k of its pairs in the records d, which is held, and m
---   later_row s d m  the pairs that are taken, for every desk
---   learns_at s d m k    the pair of another desk k, held in seat d, changes
---   with_pair row j q    the sixteen bytes row with the pair q for desk j
+--   taken_at s d m k      what is taken for desk k of its pairs in the records d, which is held, and m
+--   later_row s d m  the  pairs that are taken, for every desk
+--   learns_at s d m k     the pair of another desk k, held in seat d, changes
+--   with_pair row j q     the sixteen bytes row with the pair q for desk j
 --   grown_row, turned_row, merged_row   the row of desk j after local and send; reset; receive from the mail place p
---   learnt_from s j p    of how many desks desk j learns from the mail place p
+--   learnt_from s j p     of how many desks desk j learns from the mail place p
 use Rattle.std.specs.Prelude.{ℕ, ◌+◌, ◌<◌, ◌≡◌, Bool, true, not, ◌&&◌, List, eqb, length, set}
 use Rattle.ring.specs.Phases.{Pair, Taken, later}
 use Rattle.rules.specs.Model.{Row, row_in, grown, turned, merged, learnt}

@@ -1,7 +1,7 @@
 -- Above and below each edge, worked by hand: which setups are permitted, which number each refusal is, of how many desks a mail
 -- tells, and what pictures show, in literal numbers.
 -- Assumes nothing.
---   setup_by          the setup of the numbers D, P, the limits, M, A, m and n; setup, the same with one limit L for all D desks
+--   setup_by         the setup of the numbers D, P, the limits, M, A, m and n; setup, the same with one limit L for all D desks
 --   ends, held       not permitted below a range, permitted at both its ends, not permitted above; not permitted, then permitted
 --   Edges            each setup number below, at and above its range; each inequality just failed and just held
 --   pair v t         the pair v.t; row p q r, the row of three desks with these pairs; seat p q r, the seat of such a row
@@ -9,9 +9,9 @@
 --   X                the setup of the books; empty, a fresh book
 --   crowded          a book with no free place and no free slot, where at each desk some row lags as far as it may
 --   Numbers b ts     on the book b each call is answered by the number beside it
---   limited_at t u    a book of two desks with the limits 4 and 2, desk 0 at the clock t and desk 1 at u, mail waiting for each
+--   limited_at t u   a book of two desks with the limits 4 and 2, desk 0 at the clock t and desk 1 at u, mail waiting for each
 --   letter p q r     mail from desk 1 to desk 0 with these pairs; lettered, a book with one in each of seven places
---   stamp_at v t      a stamp of desk 0 with the pair v.t
+--   stamp_at v t     a stamp of desk 0 with the pair v.t
 --   edges            the setup numbers
 --   empty_numbers, crowded_numbers, off_numbers   the answer numbers, on books and off
 --   limited_numbers, ticking_numbers   PhaseFull by each desk's own limit

@@ -1,15 +1,15 @@
 -- Books with their setup, and every call on them, in any arithmetic of phases.
 -- Assumes nothing. In words: docs/RULES.md, "Calls".
 --   ring_of X     the ring of a setup; line_of X, the line
---   Book         a setup and its tables
---   Call         start, or an act on the book that is there
---   alters c     the call c is start or a change: an event, drop or discard; no question
---   Turn         what a call answers, and the book that it leaves
+--   Book          a setup and its tables
+--   Call          start, or an act on the book that is there
+--   alters c      the call c is start or a change: an event, drop or discard; no question
+--   Turn          what a call answers, and the book that it leaves
 --   fresh_book X  the book that a start with the setup X writes
 --   settled n b t     the turn t where the number n is 0; else the refusal n, and the book b as it was
 --   turn_of X r   the turn of an act's result r on a book with the setup X
 --   reasons_of Z b c   when which number is given to the call c
---   call Z b c   the turn of the call c on the book b
+--   call Z b c    the turn of the call c on the book b
 use Rattle.std.specs.Prelude.{Bool, true, false, not, List, [], ◌∷◌, ℕ}
 use Rattle.tools.specs.Reasons.{Reason, first, if_done}
 use Rattle.ring.specs.Phases.{Phases, ring, line}

@@ -1,14 +1,14 @@
 -- The answer table, row by row: when a name is due to an act.
 -- Assumes nothing. In words: docs/RULES.md, "Answer numbers". BadBook is for the bytes, BadLine for the program; NoEvent is never due.
---   AtDesk c j          the act c names the desk j
---   Ticks c j           c is local, send or receive at the desk j
---   ToKeep c            c is an event whose stamp is to be kept
---   OfMail c p          c names the mail place p
---   OfSlot c s          c names the shelf slot s
---   Asks c s t          c asks about the stamp in slot s and the one in slot t, in this order
---   Gone p o            the place p is above 31, or free
+--   AtDesk c j           the act c names the desk j
+--   Ticks c j            c is local, send or receive at the desk j
+--   ToKeep c             c is an event whose stamp is to be kept
+--   OfMail c p           c names the mail place p
+--   OfSlot c s           c names the shelf slot s
+--   Asks c s t           c asks about the stamp in slot s and the one in slot t, in this order
+--   Gone p o             the place p is above 31, or free
 --   lag_in Z b j w       the lag of the entry for the desk j in what is held
---   Due Z X b c w       the name w is due to the act c
+--   Due Z X b c w        the name w is due to the act c
 --   DueNumber Z X b c n   a name of the number n is due
 use Rattle.std.specs.Prelude.{◌≡◌, Bool, true, ◌⊎◌, List, length, ℕ, ◌+◌, ◌*◌, ◌≤◌, ◌<◌}
 use Rattle.std.proofs.Math.Option.{Option, none, some}

@@ -9,8 +9,8 @@
 --   settle_off n v       the value v where the number n is 0, else the refusal n
 --   before_off X e f     the answer to before, of two records as they read
 --   compare_off X e f    the answer to compare
---   Which               one of two lent records, or neither
---   newer r             the one that is after the other by the relation r; the first if they are the same
+--   Which                one of two lent records, or neither
+--   newer r              the one that is after the other by the relation r; the first if they are the same
 --   newer_in o           the same by a relation that may be none; neither then
 --   newest_by v          the same by the relation in a value; neither where it has none
 --   newest_off X e f     the record that is after the other; neither where compare is refused

@@ -1,65 +1,65 @@
 -- A book without its bytes, and one step function over any arithmetic of phases.
 -- Assumes nothing. In words: docs/RULES.md, "Steps" and "Comparing".
---   seats            the seats; a row has a pair for each of their desks
---   places           the mail places; there are as many shelf slots
---   record_size       the bytes of a stamp record
---   Row              a pair for each desk
---   Seat, Held       a desk's seat; what a used mail place or shelf slot holds
---   Tables           the seats, the mail places and the shelf slots
---   Label            a stamp: its owner and its row
---   Question         a call that asks about the stamps on the shelf; it changes nothing
---   Act              a call on a book that is already there; the four events with whether their stamp is kept; before, compare,
---                    picture, show, write, those that ask
---   slot_asked q      the slot whose stamp a question hands out, none where it hands out none; slot_of c, the same of an act
---   Odds             two desks at odds, the lower one and the higher one
---   Value            what goes with the number 0, part by part
---   tells t w o n r  a value without an event's parts: yes or no, a relation, two desks at odds, the number of a reset, a row
---   nothing          no part; the values of the calls: made, an event's place, stamp, number of desks learnt of and slot; a stamp;
---                    says, yes or no; relates, a relation; names, two desks at odds; foretells, the number of a reset; shows, a row
---   Answer           a number of the answer table, and the value that goes with it
+--   seats              the seats; a row has a pair for each of their desks
+--   places             the mail places; there are as many shelf slots
+--   record_size        the bytes of a stamp record
+--   Row                a pair for each desk
+--   Seat, Held         a desk's seat; what a used mail place or shelf slot holds
+--   Tables             the seats, the mail places and the shelf slots
+--   Label              a stamp: its owner and its row
+--   Question           a call that asks about the stamps on the shelf; it changes nothing
+--   Act                a call on a book that is already there; the four events with whether their stamp is kept; before, compare,
+--                      picture, show, write, those that ask
+--   slot_asked q       the slot whose stamp a question hands out, none where it hands out none; slot_of c, the same of an act
+--   Odds               two desks at odds, the lower one and the higher one
+--   Value              what goes with the number 0, part by part
+--   tells t w o n r    a value without an event's parts: yes or no, a relation, two desks at odds, the number of a reset, a row
+--   nothing            no part; the values of the calls: made, an event's place, stamp, number of desks learnt of and slot; a stamp;
+--                      says, yes or no; relates, a relation; names, two desks at odds; foretells, the number of a reset; shows, a row
+--   Answer             a number of the answer table, and the value that goes with it
 --   refusal, accepted   the answer with a number and no value; with 0 and a value
---   Result           what an act answers, and the tables that it leaves
+--   Result             what an act answers, and the tables that it leaves
 --   used, row_in, by_in, to_in   of a place or slot: whether it is used, its row, its sender or owner, its addressee
 --   zeros, idle, fresh        a row of zeros, a seat not started, the tables of a fresh book
---   own b k          desk k's pair in its own seat; phases b k, its phase
---   free_mail b       the lowest free mail place, or their number where none is free; free_slot likewise
---   slot_for b q      the slot for the stamp of an event: the lowest free one where it is kept, q; none where it is not
---   tick, turn       a pair after local, send or receive; after a reset
---   taken b j w k    what desk j takes of its own pair for desk k and of that in the row w
+--   own b k            desk k's pair in its own seat; phases b k, its phase
+--   free_mail b        the lowest free mail place, or their number where none is free; free_slot likewise
+--   slot_for b q       the slot for the stamp of an event: the lowest free one where it is kept, q; none where it is not
+--   tick, turn         a pair after local, send or receive; after a reset
+--   taken b j w k      what desk j takes of its own pair for desk k and of that in the row w
 --   grown, merged, turned   a desk's row after local and send; after receive; after reset
---   learns b j w k   desk j learns of the other desk k from the row w: its pair for k changes
---   learnt b j w     of how many desks it learns
---   reach_back X t    a difference within reach is above minus this: m, and m+1 from a reset, t
---   near X c d       d where it is within reach from a stamp whose own clock is c; a reset's own clock is 0
+--   learns b j w k     desk j learns of the other desk k from the row w: its pair for k changes
+--   learnt b j w       of how many desks it learns
+--   reach_back X t     a difference within reach is above minus this: m, and m+1 from a reset, t
+--   near X c d         d where it is within reach from a stamp whose own clock is c; a reset's own clock is 0
 --   is_out o, gap_in o whether there is no difference within reach; the difference, 0 where there is none
---   same_by d c c'    no difference, and the same clock
---   is_before         whether the stamp of the first owner is before that of the second
---   relation         how the first of two stamps stands to the second
+--   same_by d c c'     no difference, and the same clock
+--   is_before          whether the stamp of the first owner is before that of the second
+--   relation           how the first of two stamps stands to the second
 --   no_desk, no_mail, no_slot   there is no such desk; no used mail place, no used slot of that number
---   at_limit X b j    desk j's own clock is at its last value
---   no_shelf b q      the stamp is to be kept, q, and no slot is free
---   lags, seat_lags   what is held, the seat of another desk, lags just so far at desk j
---   gap Z X b j e f  the difference from e to f at desk j by their lags, none where it is out of reach
---   gap_held          the same between two slots, none where one is free; gap_from, by their numbers
+--   at_limit X b j     desk j's own clock is at its last value
+--   no_shelf b q       the stamp is to be kept, q, and no slot is free
+--   lags, seat_lags    what is held, the seat of another desk, lags just so far at desk j
+--   gap Z X b j e f    the difference from e to f at desk j by their lags, none where it is out of reach
+--   gap_held           the same between two slots, none where one is free; gap_from, by their numbers
 --   too_far Z X b s t   of the stamps in the slots s and t either is out of reach from the other
 --   knows_more Z b s t  the stamp in slot t knows of a later event at the desk of the stamp in slot s than that stamp itself
---   at_odds Z b s t   either of the two knows more of the other's desk
---   chosen l i       the slot that the list l has for desk i
---   of_two p l i k    the desk i is below k, and p holds of the slots that the list l has for them
---   first_odd Z b l   the lowest desk that is at odds with a higher one, by the slots of the list l; their number where none is
---   second_odd Z b l  the lowest desk above it that it is at odds with
---   pictured Z b l   yes where no two desks are at odds, else those two
---   wrong_owner b l i the slot that the list l has for desk i holds another desk's stamp
---   seated b j r     the seats with row r in j's, started
+--   at_odds Z b s t    either of the two knows more of the other's desk
+--   chosen l i         the slot that the list l has for desk i
+--   of_two p l i k     the desk i is below k, and p holds of the slots that the list l has for them
+--   first_odd Z b l    the lowest desk that is at odds with a higher one, by the slots of the list l; their number where none is
+--   second_odd Z b l   the lowest desk above it that it is at odds with
+--   pictured Z b l     yes where no two desks are at odds, else those two
+--   wrong_owner b l i  the slot that the list l has for desk i holds another desk's stamp
+--   seated b j r       the seats with row r in j's, started
 --   event b j r q p l mail   an event at j that leaves row r there and, where it is kept, q, in its slot too; with its place p, the
---                    number l of desks learnt of and the mail as given
---   filing, telling  drop and discard, which change the mail or the shelf alone; an act that changes nothing
---   settle n b r     the result r where the number n is 0; else the refusal n, and the tables b as they were
---   ask_reasons Z X b q  when which number is given to the question q, in ascending order; ask_tells, what an accepted one is told
---   reasons Z X b c  when which number is given to the act c, in ascending order
---   why Z X b c      the smallest number that is due, 0 where the act is accepted
---   done Z X b c     what an accepted act answers and leaves
---   step Z X b c     what an act answers and leaves: a refusal its number only, and the tables as they were
+--                      number l of desks learnt of and the mail as given
+--   filing, telling    drop and discard, which change the mail or the shelf alone; an act that changes nothing
+--   settle n b r       the result r where the number n is 0; else the refusal n, and the tables b as they were
+--   ask_reasons Z X b  q  when which number is given to the question q, in ascending order; ask_tells, what an accepted one is told
+--   reasons Z X b c    when which number is given to the act c, in ascending order
+--   why Z X b c        the smallest number that is due, 0 where the act is accepted
+--   done Z X b c       what an accepted act answers and leaves
+--   step Z X b c       what an act answers and leaves: a refusal its number only, and the tables as they were
 use Rattle.std.specs.Prelude.{Bool, true, false, not, ◌&&◌, ◌||◌, List, [], ◌∷◌, length, ℕ, ◌+◌, ◌*◌, ltb, eqb}
 use Rattle.std.proofs.Math.Option.{Option, none, some}
 use Rattle.tools.specs.Tests.{pick, any, lowest, count}

@@ -14,8 +14,8 @@
 --   compared_says    what the answer to compare says
 --   pictured_says    what the answer to picture says
 --   foretold_says    what the answer to may says
---   blank           owner 0 and sixteen zeros
---   Beside n s k    the stamp s and the slot k beside the number n: blank and none where n is a refusal
+--   blank            owner 0 and sixteen zeros
+--   Beside n s k     the stamp s and the slot k beside the number n: blank and none where n is a refusal
 --   BesideLearnt n l   the number l of desks learnt of beside the number n: 0 where n is a refusal
 --   BesidePost p s k   the same beside the answer p to send
 use Rattle.std.specs.Prelude.{◌≡◌, true, false, List, ℕ, zero, suc, ◌+◌, ◌*◌, ◌/◌, ◌%◌, ltb, eqb, replicate}

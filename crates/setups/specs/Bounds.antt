@@ -1,6 +1,6 @@
 -- The six numbers of a setup by fewer tests: the inequalities between them keep some ranges, and no range is asked twice.
 -- Assumes nothing.
---   bounded X     the ranges of D, m and n, and P at most 256, above A, which is at least M, which is at least 1
+--   bounded X       the ranges of D, m and n, and P at most 256, above A, which is at least M, which is at least 1
 --   on_the_ring X   2M and the reach are within the ring
 use Rattle.std.specs.Prelude.{◌+◌, ◌*◌, Bool, [], ◌∷◌, leb, ltb}
 use Rattle.tools.specs.Tests.{all_of, within}

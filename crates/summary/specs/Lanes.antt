@@ -1,12 +1,12 @@
 -- Sixteen bytes with a number for each desk, where a row has its phase: so the lags of a whole row are taken at once. What stands
 -- between them tells nothing.
 -- Assumes nothing.
---   Lanes n f l      the sixteen bytes l have f j at the place of the phase of each desk j below n
---   own_phase_at s j   the own phase of desk j in the bytes s
+--   Lanes n f l       the sixteen bytes l have f j at the place of the phase of each desk j below n
+--   own_phase_at s j  the own phase of desk j in the bytes s
 --   seats_most s j    the largest lag of desk j's entry in the seats of all desks of the bytes s
 --   place_lag s a j p how far desk j's entry lags in the p-th of the places or slots from record a on; 0 where it is free
 --   held_most s a j   the largest lag of desk j's entry in the 32 places or slots from record a on
---   Both s l         l has these lanes twice: those of the mail, then those of the shelf
+--   Both s l          l has these lanes twice: those of the mail, then those of the shelf
 --   lags_by m h k     the lags of each desk: in seats by the lanes m, in mail by the lanes h, in slots by the lanes k
 use Rattle.std.specs.Prelude.{ℕ, ◌+◌, ◌*◌, ◌<◌, ◌≡◌, List, length}
 use Rattle.tools.specs.Tests.{largest}

@@ -1,7 +1,7 @@
 -- The summary of a book: how far each desk's phase lags at most, in the seats of other desks, in waiting mail and in used slots.
 -- Assumes nothing. In words: docs/RULES.md, "The summary".
---   Lags             three largest lags of a desk's phase: in the seats of other desks, in waiting mail, in used slots
---   level            nothing lags
+--   Lags              three largest lags of a desk's phase: in the seats of other desks, in waiting mail, in used slots
+--   level             nothing lags
 --   seat_lag Z b j k  how far desk j's entry lags in the seat of another desk k; 0 in its own seat
 --   held_lag Z b j o  how far it lags in what a place or slot holds; 0 where it is free
 --   lags_of Z X b j   the largest lags of desk j's phase; nothing lags where there is no desk j
@@ -14,7 +14,7 @@
 --   summary_of Z b    the summary of the book b
 --   summary_due m     why the summary m refuses a change: its length alone
 --   lags_in m j       the three lags of desk j that the summary m tells
---   Right s m        the summary m is right of the book s, both of them bytes
+--   Right s m         the summary m is right of the book s, both of them bytes
 use Rattle.std.specs.Prelude.{ℕ, ◌+◌, ◌*◌, ◌-◌, ◌/◌, ◌%◌, ◌≡◌, not, List, [], ◌∷◌, ltb, eqb, length}
 use Rattle.std.proofs.Math.Option.{Option, none, some}
 use Rattle.tools.specs.Tests.{pick, largest}

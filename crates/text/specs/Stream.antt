@@ -1,19 +1,19 @@
 -- What a stream of bytes prints: each line is answered at its newline, a last line without one at the end of the input.
 -- The book, of any type B, is whatever lines are answered on.
 -- Assumes nothing. In words: docs/RULES.md, "Listing".
---   Answers          what a line prints on a book, and the book that it leaves
---   flat xs          no byte of xs is a newline
---   part a e xs      the bytes of xs from a to e, e left out
---   Ends xs a e      e is the place of the first newline of xs from a on; the end where there is none
---   State            the book, and the bytes since the last newline
---   start b          the book b, and no line begun
+--   Answers           what a line prints on a book, and the book that it leaves
+--   flat xs           no byte of xs is a newline
+--   part a e xs       the bytes of xs from a to e, e left out
+--   Ends xs a e       e is the place of the first newline of xs from a on; the end where there is none
+--   State             the book, and the bytes since the last newline
+--   start b           the book b, and no line begun
 --   text_at, next     what one byte prints, and the state after it
 --   text_of, after    the same of many bytes
 --   last_text, last_book   the same of the end of the input
---   printed b xs     all that the input xs prints, from the book b on
---   most             the bytes kept of a line that has begun: one more than a line may have
---   cut s            the state s, with no more than these kept
---   runs s ps        all that is printed where the input comes in the pieces ps, with no more than these kept in between
+--   printed b xs      all that the input xs prints, from the book b on
+--   most              the bytes kept of a line that has begun: one more than a line may have
+--   cut s             the state s, with no more than these kept
+--   runs s ps         all that is printed where the input comes in the pieces ps, with no more than these kept in between
 --   line_of p, held b p   the bytes that a `Pending` holds, and the state that it is with the book b
 use Rattle.std.specs.Prelude.{ℕ, ◌-◌, ◌≤◌, ◌<◌, ◌≡◌, Bool, true, not, ◌&&◌, List, [], ◌∷◌, ◌++◌, eqb, length, take, drop, get_or}
 use Rattle.tools.specs.Tests.{pick}

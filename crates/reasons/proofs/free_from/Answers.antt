@@ -16,14 +16,14 @@ pub returns-then-not-is_used : goal.returns-then-not-is_used
 returns-then-not-is_used c =
     let x = c.args in sym
     (lowest_at 32 (λ p. not (used (held_at x.book.now x.first p))) c.loop-p.p (omega arith) c.loop-p.invariant.1
-    (ap not (sym (c.is_used.ensures ∙ used_held x.book.now x.first c.loop-p.p (omega arith))) ∙ c.if-not-is_used.true-raw))
+    (ap not (sym (c.is_used.ensures ∙ used_held x.book.now x.first c.loop-p.p (omega arith)) ∙ c.if-not-is_used.true)))
 
 pub loop-p-preserved : goal.loop-p-preserved
 loop-p-preserved c =
     let x = c.args in (
       omega arith,
       below_more (λ k. not (used (held_at x.book.now x.first k)) ≡ false) c.loop-p.p c.loop-p.invariant.1
-          (ap not (sym (c.is_used.ensures ∙ used_held x.book.now x.first c.loop-p.p (omega arith))) ∙ c.if-not-is_used.false-raw),
+          (ap not (sym (c.is_used.ensures ∙ used_held x.book.now x.first c.loop-p.p (omega arith)) ∙ c.if-not-is_used.false)),
     )
 
 pub returns : goal.returns
