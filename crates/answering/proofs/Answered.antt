@@ -57,7 +57,7 @@ use Rattle.commands.specs.declared.Command.{Command}
 use Rattle.commands.specs.Lines.{Wanted, makes, asks_may, shaped, miscounted, verbs, asks, choose, parse_of, wanted_by}
 use Rattle.commands.specs.Written.{numbers_of, text_of, Spoken, Small}
 use Rattle.commands.proofs.Shapes.{sift, long_bad, kept_enough}
-use Rattle.commands.proofs.Exact.{written, bad-count}
+use Rattle.commands.proofs.Exact.{written, bad_count}
 use Rattle.replies.specs.Print.{answer_text, Printable}
 use Rattle.answering.specs.Answering.{may_on, answer_of, folder_of, wanted_text, line_text, line_folder, answering}
 
@@ -154,7 +154,7 @@ module _ (f : Folder) (X : Setup) (e : length f.book ≡ book_size) (s : Small (
 
 pub miscount : (f : Folder) (X : Setup) → miscounted X ≡ true → Small (numbers_of (makes (start X)))
     → (line_text f (text_of (makes (start X))) ≡ ascii "017" ++ (10 ∷ [])) × (line_folder f (text_of (makes (start X))) ≡ f)
-miscount f X m s = bad_line f (text_of (makes (start X))) (bad-count X m s)
+miscount f X m s = bad_line f (text_of (makes (start X))) (bad_count X m s)
 
 -- neither the papers nor may give NoEvent's number
 papers_no_event : (f : Folder) (c : Call) → papers_number (papers_at f c) ≡ number NoEvent → ⊥

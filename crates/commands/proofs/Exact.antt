@@ -2,7 +2,7 @@
 -- for written out.
 -- Assumes nothing.
 --   written   what has a line, its numbers of at most three digits, is read as itself where it is written out
---   bad-count a start whose limits are miscounted, written out, is read as no call
+--   bad_count a start whose limits are miscounted, written out, is read as no call
 --   reads     a line that is read as asking for something is that written out
 --   start_fits     where a line asks for a start, it has room for as many limits, and these are at most 8
 --   picture_fits   where a line asks for a picture, it has room for as many slots, and these are at most 14
@@ -143,12 +143,12 @@ written (makes (on (ask (ask_show d)))) g s = absurd (g.0 refl)
 written (makes (on (ask (ask_write d room)))) g s = absurd (g.0 refl)
 written (asks_may d) g s = sift _ g.2 ∙ own _ _ (d ∷ []) refl s
 
-pub bad-count
+pub bad_count
     : (X : Setup)
     → miscounted X ≡ true
     → Small (numbers_of (makes (start X)))
     → parse_of (text_of (makes (start X))) ≡ none
-bad-count X h s =
+bad_count X h s =
     let l = text_of (makes (start X)) in
     ⊎_elim (long_bad l) (λ (q : length l ≤ 64). start_line X q s ∙ pick_true _ _ _ h) (lt_or_le 64 (length l))
 
@@ -254,16 +254,16 @@ only {v} n k h =
     subst (MadeSays v) (sym (is_tab n (byte ns) ns (sym q) (λ i l. refl))) (h (byte ns)))
 
 -- what holds of a yes and a no holds of every call that a last number makes
-by-wish
+by_wish
     : (P : ℕ → Wanted → Type 0) (c : Bool → Act)
     → P 0 (makes (on (c false)))
     → P 1 (makes (on (c true)))
     → (q : ℕ) (a : Wanted)
     → wish q c ≡ some a
     → P q a
-by-wish P c not-kept kept zero a e = subst (P 0) (some_is e) not-kept
-by-wish P c not-kept kept (suc zero) a e = subst (P 1) (some_is e) kept
-by-wish P c not-kept kept (suc (suc q)) a e = absurd (none_some (rw (lt-ltb 1 (suc (suc q)) (omega arith)) at e))
+by_wish P c not-kept kept zero a e = subst (P 0) (some_is e) not-kept
+by_wish P c not-kept kept (suc zero) a e = subst (P 1) (some_is e) kept
+by_wish P c not-kept kept (suc (suc q)) a e = absurd (none_some (rw (lt-ltb 1 (suc (suc q)) (omega arith)) at e))
 
 -- the call of a start's numbers is written as them
 start_says : (ns : List ℕ) → leb 6 (length ns) ≡ true → (a : Wanted) → start_of ns ≡ some a → Says (ascii "start") ns a
@@ -280,10 +280,10 @@ start_says ns h a e = go (miscounted (setup_from ns)) e
 all_fair : Fair verbs
 unfolding verbs tab
 all_fair =
-    only 2 refl (λ f. by-wish (λ q. Says (ascii "local") (f 0 ∷ q ∷ [])) (local (f 0)) (refl, refl) (refl, refl) (f 1))
-    (only 3 refl (λ f. by-wish (λ q. Says (ascii "send") (f 0 ∷ f 1 ∷ q ∷ [])) (send (f 0) (f 1)) (refl, refl) (refl, refl) (f 2))
-    (only 3 refl (λ f. by-wish (λ q. Says (ascii "receive") (f 0 ∷ f 1 ∷ q ∷ [])) (receive (f 0) (f 1)) (refl, refl) (refl, refl) (f 2))
-    (only 2 refl (λ f. by-wish (λ q. Says (ascii "reset") (f 0 ∷ q ∷ [])) (reset (f 0)) (refl, refl) (refl, refl) (f 1))
+    only 2 refl (λ f. by_wish (λ q. Says (ascii "local") (f 0 ∷ q ∷ [])) (local (f 0)) (refl, refl) (refl, refl) (f 1))
+    (only 3 refl (λ f. by_wish (λ q. Says (ascii "send") (f 0 ∷ f 1 ∷ q ∷ [])) (send (f 0) (f 1)) (refl, refl) (refl, refl) (f 2))
+    (only 3 refl (λ f. by_wish (λ q. Says (ascii "receive") (f 0 ∷ f 1 ∷ q ∷ [])) (receive (f 0) (f 1)) (refl, refl) (refl, refl) (f 2))
+    (only 2 refl (λ f. by_wish (λ q. Says (ascii "reset") (f 0 ∷ q ∷ [])) (reset (f 0)) (refl, refl) (refl, refl) (f 1))
     (only 1 refl (λ f a e. subst (Says (ascii "drop") _) (some_is e) (refl, refl))
     (only 1 refl (λ f a e. subst (Says (ascii "discard") _) (some_is e) (refl, refl))
     (only 2 refl (λ f a e. subst (Says (ascii "before") _) (some_is e) (refl, refl))

@@ -1,5 +1,8 @@
 -- How the program meets its two ends, standard input and standard output.
 -- Assumes nothing.
+--   reason_of e          the number of the reason e why a call fails: the system's number, or else one by e's kind, or else 0
+--   got_of r             how many bytes a call moves that answers r, or -1 where it fails
+--   error_of r           the number of the reason why it fails, or 0 where it does not
 --   failure_went e bad   what becomes of the run where a call fails for the system's reason e: EAGAIN (11) and EINTR (4) go on, as the
 --                        call is made again, EPIPE (32) says that nobody reads any more, any other reason is `bad`
 --   call_went got e none bad   the same of a call that answers `got` bytes, or less than 0 where it fails; `none` where it moves none
@@ -11,7 +14,11 @@
 --   end_book w s         the book and papers at the end of a run that went w, from the state s on: only the end of the input answers a
 --                        begun line
 --   word_of w            what the program says on standard error at its end, before the system's reason; no word where it is quiet
-use Rattle.std.specs.Prelude.{ℕ, zero, suc, ◌<◌, ◌≡◌, ◌||◌, List, [], ℤ, pos, negsuc, eqb}
+use Rattle.std.specs.Prelude.{ℕ, zero, suc, ◌<◌, ◌≡◌, ◌||◌, List, [], ℤ, pos, negsuc, eqb, Result, Ok, Err, Option, Some, None}
+use Rattle.std.specs.IoError.{error_kind, raw_os_error}
+use Rattle.std.specs.declared.io.Error.{Error}
+use Rattle.std.specs.declared.io.ErrorKind.{ErrorKind}
+use Rattle.std.specs.declared.io.ErrorKind.TheVariants.{WouldBlock, Interrupted, BrokenPipe}
 use Rattle.tools.specs.Tests.{pick}
 use Rattle.text.specs.Words.{ascii}
 use Rattle.text.specs.Stream.{State, last_book}
@@ -19,6 +26,27 @@ use Rattle.office.specs.Office.{Folder}
 use Rattle.answering.specs.Answering.{answering}
 use Rattle.ends.specs.declared.Went.{Went}
 use Rattle.ends.specs.declared.Went.TheVariants.{On, Ended, Gone, Unread, Unwritten}
+
+abbrev kind_reason : ErrorKind → ℤ
+kind_reason WouldBlock = pos 11
+kind_reason Interrupted = pos 4
+kind_reason BrokenPipe = pos 32
+kind_reason _ = pos 0
+
+abbrev number_of : Option ℤ → ErrorKind → ℤ
+number_of (Some code) k = code
+number_of None k = kind_reason k
+
+abbrev pub reason_of : Error → ℤ
+reason_of e = number_of (raw_os_error e) (error_kind e)
+
+abbrev pub got_of : Result ℕ Error → ℤ
+got_of (Ok n) = pos n
+got_of (Err e) = negsuc 0
+
+abbrev pub error_of : Result ℕ Error → ℤ
+error_of (Ok n) = pos 0
+error_of (Err e) = reason_of e
 
 unfoldable pub failure_went : ℤ → Went → Went
 failure_went (pos e) bad = pick (eqb e 11 || eqb e 4) On (pick (eqb e 32) Gone bad)

@@ -23,7 +23,7 @@ use Rattle.history.specs.Demand.{InReach, Stands, BeforeSaid, BeforeIs, CompareS
 use Rattle.history.proofs.Causal.{Causal, leads_lt}
 use Rattle.history.proofs.Runs.{Faithful, faithful_run}
 use Rattle.history.proofs.Alike.{ring_book}
-use Rattle.history.proofs.Shelf.{both_dec, in-reach?, state_before, state_compare}
+use Rattle.history.proofs.Shelf.{both_dec, in_reach?, state_before, state_compare}
 use Rattle.history.proofs.Stamps.{slot_stamp}
 use Rattle.history.proofs.Labels.{state_off_before, state_off_compare}
 
@@ -98,7 +98,7 @@ module _ (s : State) (w : Faithful s) (i j : ℕ) (e f : Held)
 
   pub state_agree_before : (call ring_of (round_book s.book) (on (before i j))).answer.number ≡ 0
       → before_off X (some (label_held e)) (some (label_held f)) ≡ (call ring_of (round_book s.book) (on (before i j))).answer
-  state_agree_before z = go (in-reach? X h x y)
+  state_agree_before z = go (in_reach? X h x y)
     where
       told : BeforeIs X h x y (call ring_of (round_book s.book) (on (before i j))).answer
       told = state_before s w i j (ap used pe) (ap used pf)
@@ -112,7 +112,7 @@ module _ (s : State) (w : Faithful s) (i j : ℕ) (e f : Held)
 
   pub state_agree_compare : (call ring_of (round_book s.book) (on (compare i j))).answer.number ≡ 0
       → compare_off X (some (label_held e)) (some (label_held f)) ≡ (call ring_of (round_book s.book) (on (compare i j))).answer
-  state_agree_compare z = go (both_dec (in-reach? X h x y) (in-reach? X h y x))
+  state_agree_compare z = go (both_dec (in_reach? X h x y) (in_reach? X h y x))
     where
       told : CompareIs X h x y (call ring_of (round_book s.book) (on (compare i j))).answer
       told = state_compare s w i j (ap used pe) (ap used pf)

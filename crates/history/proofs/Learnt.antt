@@ -232,10 +232,10 @@ module _ (s : State) (w : Faithful s) (j p : ℕ) (q : Bool) (accepted : (call l
         ap (λ n. ((settle n rung (done (ring s.book.setup.phases) s.book.setup rung (receive j p q))).tables.seat j).row k) rung_done
         ∙ ap (λ (t : Seat). t.row k) (put_same rung.seat j _)
 
-    pub ring-changes
+    pub ring_changes
         : (((call ring_of (round_book s.book) (on (receive j p q))).book.tables.seat j).row k ≡ (rung.seat j).row k → ⊥)
         ↔ Tells received.history.log s.history.log.count k
-    ring-changes =
+    ring_changes =
         let o = learns_other (ring s.book.setup.phases) s.book.setup rung j (row_in (rung.mail p)) k ne in
         let t = told_by k in
         let at = ap (λ (l : Log). l.desk s.history.log.count) log_is ∙ put_same s.history.log.desk s.history.log.count j in (

@@ -44,8 +44,8 @@ both_dec (yes a) (yes b) = yes (a, b)
 both_dec (yes a) (no b) = no (λ p. b p.1)
 both_dec (no a) d = no (λ p. a p.0)
 
-pub in-reach? : (X : Setup) (h : Log) (x y : ℕ) → Dec (InReach X h x y)
-in-reach? X h x y = both_dec (dec_lt _ _) (dec_lt _ _)
+pub in_reach? : (X : Setup) (h : Log) (x y : ℕ) → Dec (InReach X h x y)
+in_reach? X h x y = both_dec (dec_lt _ _) (dec_lt _ _)
 
 -- in a faithful state; both slots are used in the ring's book
 module _ (s : State) (w : Faithful s) (i j : ℕ)
@@ -77,7 +77,7 @@ module _ (s : State) (w : Faithful s) (i j : ℕ)
 -- the words that compare may answer, by what it is
 pub compare_words : (X : Setup) (h : Log) (x y : ℕ) (a : Answer) → ((a.number ≡ 0 → ⊥) → a ≡ refusal a.number) → CompareIs X h x y a
     → (r : Relation) → a.value ≡ relates r → Stands h x y r
-compare_words X h x y a only w r v = go (both_dec (in-reach? X h x y) (in-reach? X h y x))
+compare_words X h x y a only w r v = go (both_dec (in_reach? X h x y) (in_reach? X h y x))
   where
     go : Dec (InReach X h x y × InReach X h y x) → Stands h x y r
     go (yes (p, q)) =

@@ -1,9 +1,9 @@
 -- What the listing prints is one function of the bytes of its input.
 -- Assumes nothing.
 --   any_pieces   however the input is cut into pieces, the listing prints the same
---   feeds-one    what a piece leaves goes by how many of its bytes are taken in
+--   feeds_one    what a piece leaves goes by how many of its bytes are taken in
 --   feeds_none   no byte of a piece is taken in
---   feeds-on     a piece is taken in up to a place, and then from there on
+--   feeds_on     a piece is taken in up to a place, and then from there on
 use Prim.Native.Nat.{ℕ, ◌+◌, ◌≤◌}
 use mathlib.Core.Path.{◌≡◌, sym, ap, ◌∙◌}
 use mathlib.Core.List.{List, flatten}
@@ -21,12 +21,12 @@ use Rattle.listing.specs.Feeding.{Feeds}
 pub any_pieces : (b : Folder) (ps : List (List ℕ)) → runs answering (start b) ps ≡ printed answering b (flatten ps)
 any_pieces b ps = any_cut answering blind b ps
 
-pub feeds-one
+pub feeds_one
     : (s : State Folder) (xs : List ℕ) (n : ℕ) (b b' : Folder) (p p' : Pending)
     → Feeds s xs n b p
     → Feeds s xs n b' p'
     → (b ≡ b') × (line_of p ≡ line_of p')
-feeds-one s xs n b b' p p' f g =
+feeds_one s xs n b b' p p' f g =
     let e : held b p ≡ held b' p' = f.left ∙ sym g.left in
     (ap (λ (u : State Folder). u.book) e, ap (λ (u : State Folder). u.line) e)
 
@@ -39,13 +39,13 @@ feeds_none b p xs h =
       left = ap (λ (l : List ℕ). record { book = b; line = l }) (sym (take_all most (line_of p) (simp length-take (omega arith))));
     }
 
-pub feeds-on
+pub feeds_on
     : (s : State Folder) (xs : List ℕ) (n : ℕ) (b : Folder) (p : Pending)
     → Feeds s xs n b p
     → (m : ℕ) (b' : Folder) (p' : Pending)
     → Feeds (held b p) (drop n xs) m b' p'
     → Feeds s xs (n + m) b' p'
-feeds-on s xs n b p f m b' p' g =
+feeds_on s xs n b p f m b' p' g =
     let ys = take m (drop n xs) in
     let joined : after answering s (take (n + m) xs) ≡ after answering (after answering s (take n xs)) ys =
     rw (take-add n m xs) (after_join answering s (take n xs) ys) in

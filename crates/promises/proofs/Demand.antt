@@ -20,7 +20,7 @@ use Rattle.history.specs.Learnt.{Knew, Tells, LearntSaid}
 use Rattle.history.specs.Picture.{PictureIs}
 use Rattle.history.proofs.Shelf.{state_before, state_compare, compare_words}
 use Rattle.history.proofs.Substitute.{kept_in_lem, meets_reach}
-use Rattle.history.proofs.Learnt.{state_learnt, state_nothing, ring-changes}
+use Rattle.history.proofs.Learnt.{state_learnt, state_nothing, ring_changes}
 use Rattle.history.proofs.Picture.{state_picture}
 use Rattle.book.specs.Sound.{sound}
 use Rattle.book.specs.Codec.{decode, encode}
@@ -142,7 +142,7 @@ module _ (s : List ℕ) (X : Setup) (started : (answer_to s (start X)).number �
         → (((decode (book_after bytes (on (receive j p q)))).tables.seat j).row k ≡ ((decode bytes).tables.seat j).row k → ⊥)
         ↔ Tells log event k
     entry_changes k ne =
-        let c = ring-changes _ together.faithful j p q on_line k ne in
+        let c = ring_changes _ together.faithful j p q on_line k ne in
         let before = ap (λ (b : Book). (b.tables.seat j).row k) together.told in
         let left = ap (λ (b : Book). (b.tables.seat j).row k) (ring_book bytes _ together (on (receive j p q))) in
         (λ d. c.0 (λ i. d (left ∙ i ∙ sym before)), λ t i. c.1 t (sym left ∙ i ∙ before))

@@ -4,14 +4,14 @@
 --   flat_more                  one byte more that is no newline
 --   after_join, text_join      two pieces, one after the other, are the pieces joined
 --   quiet, gathers             bytes with no newline print nothing, and are kept
---   line-text, line_after      a line and its newline
+--   line_text_lem, line_after      a line and its newline
 --   more_text, more_after      a piece up to the end of a line, where the line before has ended
 --   tail_text, tail_after      a piece up to a place in a line, where the line before has ended
---   first-text, first_after    a piece that ends the line that has begun, and goes on
+--   first_text, first_after    a piece that ends the line that has begun, and goes on
 --   Blind                      an answer goes by the bytes of a line that are kept
 --   text_cut, after_cut        a state of which no more is kept prints the same, and goes on alike
 --   any_cut                    however the input is cut into pieces, it prints the same
---   printed_none, printed-line, printed_last   what an input prints, line by line
+--   printed_none, printed_line, printed_last   what an input prints, line by line
 use Prim.Native.Nat.{ℕ, zero, suc, ◌+◌, ◌-◌, ◌<◌, ◌≤◌}
 use mathlib.Core.Path.{◌≡◌, refl, sym, ap, ◌∙◌}
 use mathlib.Core.Bool.{Bool, true, false, not}
@@ -102,10 +102,10 @@ module _ {B : Type 0} (A : Answers B) where
       (gathers (record { book = s.book; line = s.line ++ (x ∷ []) }) xs (rest x xs f)
       ∙ ap (λ (l : List ℕ). record { book = s.book; line = l }) (append_assoc s.line (x ∷ []) xs))
 
-  pub line-text
+  pub line_text_lem
       : (s : State B) (xs : List ℕ) → flat xs ≡ true → text_of A s (xs ++ 10 ∷ []) ≡ A.says s.book (s.line ++ xs)
   unfolding text_of text_at
-  line-text s xs f = rw (text_join s xs (10 ∷ []), quiet s xs f, gathers s xs f) (append-nil _)
+  line_text_lem s xs f = rw (text_join s xs (10 ∷ []), quiet s xs f, gathers s xs f) (append-nil _)
 
   pub line_after
       : (s : State B) (xs : List ℕ)
@@ -125,7 +125,7 @@ module _ {B : Type 0} (A : Answers B) where
           line_there l,
           text_join s (take a xs) (part a e xs ++ 10 ∷ []),
           began,
-          line-text (start b) (part a e xs) h.plain,
+          line_text_lem (start b) (part a e xs) h.plain,
         )
 
     pub more_after : e < length xs → after A s (take (e + 1) xs) ≡ start (A.leaves b (part a e xs))
@@ -160,17 +160,17 @@ module _ {B : Type 0} (A : Answers B) where
     first_there : e < length xs → (n : ℕ) → take (e + 1 + n) xs ≡ (take e xs ++ 10 ∷ []) ++ take n (drop (e + 1) xs)
     first_there l n = take-add (e + 1) n xs ∙ rw (add-one, take-suc xs e 0 l, h.newline l)
 
-    pub first-text
+    pub first_text
         : e < length xs
         → (n : ℕ)
         → text_of A s (take (e + 1 + n) xs)
         ≡ A.says s.book (s.line ++ take e xs)
         ++ text_of A (start (A.leaves s.book (s.line ++ take e xs))) (take n (drop (e + 1) xs))
-    first-text l n =
+    first_text l n =
         rw (
           first_there l n,
           text_join s (take e xs ++ 10 ∷ []) (take n (drop (e + 1) xs)),
-          line-text s (take e xs) first_plain,
+          line_text_lem s (take e xs) first_plain,
           line_after s (take e xs) first_plain,
         )
 
@@ -190,16 +190,16 @@ module _ {B : Type 0} (A : Answers B) where
   unfolding printed text_of after last_text
   printed_none b = refl
 
-  pub printed-line
+  pub printed_line
       : (b : B) (l xs : List ℕ)
       → flat l ≡ true
       → printed A b (l ++ 10 ∷ xs) ≡ A.says b l ++ printed A (A.leaves b l) xs
   unfolding printed
-  printed-line b l xs f =
+  printed_line b l xs f =
       let s = start (A.leaves b l) in
       let e : l ++ 10 ∷ xs ≡ (l ++ 10 ∷ []) ++ xs = sym (append_assoc l (10 ∷ []) xs) in
       rw
-      (e, text_join (start b) (l ++ 10 ∷ []) xs, after_join (start b) (l ++ 10 ∷ []) xs, line-text (start b) l f, line_after (start b) l f)
+      (e, text_join (start b) (l ++ 10 ∷ []) xs, after_join (start b) (l ++ 10 ∷ []) xs, line_text_lem (start b) l f, line_after (start b) l f)
       (append_assoc (A.says b l) (text_of A s xs) (last_text A (after A s xs)))
 
   pub printed_last : (b : B) (l : List ℕ) → flat l ≡ true → (length l ≡ 0 → ⊥) → printed A b l ≡ A.says b l

@@ -2,7 +2,7 @@
 -- Assumes nothing.
 --   put_length            a buffer keeps its length
 --   take_put, drop_put    what stands before the end of the text, and what stands after it
---   put-put               a text after a text is their join
+--   put_put               a text after a text is their join
 --   wrote_length          so it does where a text was written
 --   same_text             of two texts that are the same the one is written where the other is
 --   none, one, then       nothing written; one byte; two writes, one after the other
@@ -38,10 +38,10 @@ module _ (xs : List ℕ) (at : ℕ) (ys : List ℕ) (fits : at + length ys ≤ l
   drop_after n =
       sym (drop-drop n (at + length ys) (put xs at ys)) ∙ ap (drop n) drop_put ∙ drop-drop n (at + length ys) xs
 
-put-by
+put_by
     : (w : List ℕ) (n : ℕ) (zs h t : List ℕ) → take n w ≡ h → drop (n + length zs) w ≡ t → put w n zs ≡ h ++ zs ++ t
 unfolding put
-put-by w n zs h t a b = rw (a, b)
+put_by w n zs h t a b = rw (a, b)
 
 joined
     : (xs : List ℕ) (at : ℕ) (ys zs : List ℕ)
@@ -50,12 +50,12 @@ unfolding put
 joined xs at ys zs = simp (append_assoc, length-append, add_assoc)
 
 -- a text after a text is their join
-pub put-put
+pub put_put
     : (xs : List ℕ) (at : ℕ) (ys zs : List ℕ)
     → at + length ys ≤ length xs
     → put (put xs at ys) (at + length ys) zs ≡ put xs at (ys ++ zs)
-put-put xs at ys zs fits =
-    put-by (put xs at ys) (at + length ys) zs _ _ (take_put xs at ys fits) (drop_after xs at ys fits (length zs))
+put_put xs at ys zs fits =
+    put_by (put xs at ys) (at + length ys) zs _ _ (take_put xs at ys fits) (drop_after xs at ys fits (length zs))
     ∙ joined xs at ys zs
 
 pub wrote_length : {xs s ys : List ℕ} {at n : ℕ} → Wrote xs at s ys n → length ys ≡ length xs
@@ -69,7 +69,7 @@ pub then
     : {xs ys zs s t : List ℕ} {at n m : ℕ} → Wrote xs at s ys n → Wrote ys n t zs m → Wrote xs at (s ++ t) zs m
 then {xs} {ys} {zs} {s} {t} {at} {n} {m} a b =
     record {
-      left = b.left ∙ rw (a.left, a.ends) (put-put xs at s t a.fits);
+      left = b.left ∙ rw (a.left, a.ends) (put_put xs at s t a.fits);
       ends = simp length-append (omega arith);
       fits = simp length-append (omega (arith, wrote_length a));
     }

@@ -1,6 +1,6 @@
 use Rattle.text.specs.Stream.{held, line_of}
 use Rattle.text.proofs.Writing.{none, then}
-use Rattle.text.proofs.Streams.{quiet, gathers, first_plain, first-text, first_after}
+use Rattle.text.proofs.Streams.{quiet, gathers, first_plain, first_text, first_after}
 use Rattle.answering.specs.Answering.{line_text, line_folder, answering}
 use Rattle.office.specs.Office.{folder}
 use Rattle.answering.proofs.Answered.{blind}
@@ -79,7 +79,7 @@ returns c =
     let book : _ ≡ line_folder b whole = told.summary_after ∙ ap (line_folder b) line ∙ blind.leaves b whole in
     record {
       wrote =
-          rw (first-text answering s xs e.result e.ensures l u)
+          rw (first_text answering s xs e.result e.ensures l u)
           (then (rw text at told.wrote) (rw (book, w) at f.ensures.wrote));
       feeds = record {
         -- what is taken in lies within the piece
