@@ -1,3 +1,4 @@
+use Rattle.std.proofs.Common.{rules}
 use mathlib.Core.Path.{refl, ap}
 use Rattle.rules.specs.Model.{nothing, foretells}
 use Rattle.rules.specs.Replies.{foretold_says}
@@ -7,8 +8,8 @@ use Rattle.door.proofs.give_foretold.Goals as goal
 
 pub returns-in-Is : goal.returns-in-Is
 returns-in-Is c =
-    byte_as foretold_in refl _ _ _ (foretells c.in-Is.n) _ (ap foretold_says c.in-Is.is) _ c.give_byte.ensures refl
+    byte_as foretold_in refl _ _ _ (foretells c.in-Is.n) _ (ap foretold_says c.in-Is.is) c.in-Is.n (search rules) refl
 
 pub returns-in-Refused : goal.returns-in-Refused
 returns-in-Refused c =
-    refused _ _ _ c.in-Refused.n (ap foretold_says c.in-Refused.is) c.number_by.ensures (still 1 foretold_in _ _ refl (fills_none nothing))
+    refused _ _ _ c.in-Refused.n (ap foretold_says c.in-Refused.is) (search rules) (still 1 foretold_in _ _ refl (fills_none nothing))
