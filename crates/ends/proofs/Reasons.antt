@@ -3,13 +3,16 @@
 --   read_back      a signed number is the one that its bits say
 --   other_reason   a call that failed for a reason of its own
 --   failed, moved  a call that failed, and one that moved bytes
+--   not_on         a run whose tag is one of the others does not go on
 --   untold         a write that ends the run leaves bytes unwritten
 --   prints, stands a run that goes by what it prints, and one that goes as it had
+--   not_ended      one whose tag is one of the others has not ended
 --   ends           a run whose input has not ended ends as it went, and leaves the book and papers alone
 --   ends_last      one whose input has ended leaves the book and papers that its last line leaves, and ends by how that is written
 use Prim.Native.Nat.{ℕ, zero, suc, ◌<◌}
 use mathlib.Core.Path.{◌≡◌, refl, sym, ap, ◌∙◌, subst}
 use mathlib.Core.Bool.{Bool, true, false, true≢false, ◌||◌}
+use mathlib.Core.List.{List, [], ◌∷◌}
 use borrow.Author.Tests.{ne_eqb, ltb-true}
 use native.Mathlib.Omega.{arith}
 use lib.Dec.{eqb}
@@ -18,6 +21,8 @@ use lib.Signed.{lt_z}
 use mir.Syntax.{Width, w32, w64}
 use mir.Val.{to_z, of_z, SFits}
 use mir.ValLaws.{to_z-of_z}
+use denote.Enum.Declared.{tag_of}
+use types.Run.{OneOf, miss}
 use Rattle.tools.specs.Tests.{pick}
 use Rattle.text.specs.Stream.{State, last_book}
 use Rattle.office.specs.Office.{Folder}
@@ -25,6 +30,7 @@ use Rattle.answering.specs.Answering.{answering}
 use Rattle.ends.specs.declared.Went.{Went}
 use Rattle.ends.specs.declared.Went.TheVariants.{On, Ended, Gone, Unread, Unwritten}
 use Rattle.ends.specs.Ends.{failure_went, call_went, write_went, Told, Goes, end_book}
+use Rattle.ends.specs.contracts.Went.{the_type}
 
 pub read_back : (w : Width) (z : ℤ) → SFits w z → (n : ℕ) → of_z w z ≡ n → z ≡ to_z w n
 read_back w z f n e = sym (to_z-of_z w z f) ∙ ap (to_z w) e
@@ -86,6 +92,13 @@ writes (pos zero) e = tt
 writes (pos (suc n)) e = tt
 writes (negsuc n) e = writes_failure e
 
+-- the tags of all but `On`
+abbrev others : List ℕ
+others = 1 ∷ 2 ∷ 3 ∷ 4 ∷ []
+
+pub not_on : (w : Went) → OneOf others (tag_of the_type w) → w ≡ On → ⊥
+not_on w k e = miss others 0 tt (subst (λ (v : Went). OneOf others (tag_of the_type v)) e k)
+
 pub untold : (got e : ℤ) (w : Went) → w ≡ write_went got e → (w ≡ On → ⊥) → (n : ℕ) → 0 < n → Told w n
 untold got e w h k n l = go w (subst Writes (sym h) (writes got e)) k
   where
@@ -101,6 +114,13 @@ prints u v w n e t = (λ _. t, λ ne. absurd (ne e))
 
 pub stands : (u v : Went) → (v ≡ u → ⊥) → Goes u v v 0
 stands u v ne = (λ e. absurd (ne e), λ _. (refl, refl))
+
+-- the tags of all but `Ended`
+abbrev unended : List ℕ
+unended = 0 ∷ 2 ∷ 3 ∷ 4 ∷ []
+
+not_ended : (w : Went) → OneOf unended (tag_of the_type w) → w ≡ Ended → ⊥
+not_ended w k e = miss unended 1 tt (subst (λ (v : Went). OneOf unended (tag_of the_type v)) e k)
 
 pub ends : (w : Went) → (w ≡ Ended → ⊥) → (s : State Folder) → (s.book ≡ end_book w s) × Goes Ended w w 0
 ends w k s = (go w k, stands Ended w k)

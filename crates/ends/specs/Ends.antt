@@ -5,7 +5,7 @@
 --   error_of r           the number of the reason why it fails, or 0 where it does not
 --   failure_went e bad   what becomes of the run where a call fails for the system's reason e: EAGAIN (11) and EINTR (4) go on, as the
 --                        call is made again, EPIPE (32) says that nobody reads any more, any other reason is `bad`
---   call_went got e none bad   the same of a call that answers `got` bytes, or less than 0 where it fails; `none` where it moves none
+--   call_went got e empty bad   the same of a call that answers `got` bytes, or less than 0 where it fails; `empty` where it moves none
 --   read_went got e      the same of a read: no byte is the end of the input
 --   write_went got e     the same of a write, which moves a byte or fails
 --   Told w n             the run went w where n bytes of what it prints are not written: it goes on only where there are none
@@ -53,9 +53,9 @@ failure_went (pos e) bad = pick (eqb e 11 || eqb e 4) On (pick (eqb e 32) Gone b
 failure_went (negsuc e) bad = bad
 
 unfoldable pub call_went : ℤ → ℤ → Went → Went → Went
-call_went (pos zero) e none bad = none
-call_went (pos (suc n)) e none bad = On
-call_went (negsuc n) e none bad = failure_went e bad
+call_went (pos zero) e empty bad = empty
+call_went (pos (suc n)) e empty bad = On
+call_went (negsuc n) e empty bad = failure_went e bad
 
 unfoldable pub read_went : ℤ → ℤ → Went
 read_went got e = call_went got e Ended Unread
