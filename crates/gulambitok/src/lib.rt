@@ -1,5 +1,5 @@
 // The C interface (docs/RULES.md): every call over byte slices and numbers. Each answers its number and writes its value into a
-// buffer that the caller lends; a buffer too short for it is NoRoom, and then nothing changes.
+// buffer that the caller lends; a buffer too short for it is NoRoom, and then nothing changes. gulambitok_c exports them.
 
 #![tactic(auto)]
 
@@ -16,8 +16,7 @@ ghost use Rattle.door.specs.Door.{Gives, Makes};
 pub mod papers;
 
 // Start writes a fresh book: rows zero, no seat started, all places free.
-#[unsafe(no_mangle)]
-pub extern "C" fn gulambitok_start(
+pub fn gulambitok_start(
     book: &mut [u8],
     desks: usize,
     phases: usize,
@@ -38,8 +37,7 @@ pub extern "C" fn gulambitok_start(
 }
 
 // Local: the desk's own clock grows by 1. Where keep is not 0 its stamp is kept, as that of each event.
-#[unsafe(no_mangle)]
-pub extern "C" fn gulambitok_local(
+pub fn gulambitok_local(
     book: &mut [u8],
     desk: usize,
     keep: usize,
@@ -61,8 +59,7 @@ pub extern "C" fn gulambitok_local(
 }
 
 // Receive at a desk from a place; any waiting mail may be taken, in any order.
-#[unsafe(no_mangle)]
-pub extern "C" fn gulambitok_receive(
+pub fn gulambitok_receive(
     book: &mut [u8],
     desk: usize,
     place: usize,
@@ -88,8 +85,7 @@ pub extern "C" fn gulambitok_receive(
 }
 
 // Reset: the desk's own phase grows by 1 modulo P and its own clock becomes 0.
-#[unsafe(no_mangle)]
-pub extern "C" fn gulambitok_reset(
+pub fn gulambitok_reset(
     book: &mut [u8],
     desk: usize,
     keep: usize,
@@ -111,8 +107,7 @@ pub extern "C" fn gulambitok_reset(
 }
 
 // Send from a desk to another: as local, then the row goes into the lowest free mail place.
-#[unsafe(no_mangle)]
-pub extern "C" fn gulambitok_send(
+pub fn gulambitok_send(
     book: &mut [u8],
     desk: usize,
     to: usize,
@@ -138,29 +133,21 @@ pub extern "C" fn gulambitok_send(
 }
 
 // Drop frees a slot.
-#[unsafe(no_mangle)]
-pub extern "C" fn gulambitok_drop(book: &mut [u8], slot: usize) -> u8
+pub fn gulambitok_drop(book: &mut [u8], slot: usize) -> u8
     ensures { Makes (on (Model.drop slot)) book.old book.new [] result }
 {
     portal::drop(book, slot)
 }
 
 // Discard frees a mail place.
-#[unsafe(no_mangle)]
-pub extern "C" fn gulambitok_discard(book: &mut [u8], place: usize) -> u8
+pub fn gulambitok_discard(book: &mut [u8], place: usize) -> u8
     ensures { Makes (on (Model.discard place)) book.old book.new [] result }
 {
     portal::discard(book, place)
 }
 
 // Before, of two slots: 1 for yes, 0 for no.
-#[unsafe(no_mangle)]
-pub extern "C" fn gulambitok_before(
-    book: &[u8],
-    first: usize,
-    second: usize,
-    answer: &mut [u8],
-) -> u8
+pub fn gulambitok_before(book: &[u8], first: usize, second: usize, answer: &mut [u8]) -> u8
     ensures { Gives (answer_to book.now (on (Model.before first second)))
         (byte_to answer.old answer.new ∷ []) result }
 {
@@ -168,13 +155,7 @@ pub extern "C" fn gulambitok_before(
 }
 
 // Compare, of two slots: 1 before, 2 after, 3 same, 4 concurrent, 5 crossed.
-#[unsafe(no_mangle)]
-pub extern "C" fn gulambitok_compare(
-    book: &[u8],
-    first: usize,
-    second: usize,
-    answer: &mut [u8],
-) -> u8
+pub fn gulambitok_compare(book: &[u8], first: usize, second: usize, answer: &mut [u8]) -> u8
     ensures { Gives (answer_to book.now (on (Model.compare first second)))
         (byte_to answer.old answer.new ∷ []) result }
 {
@@ -182,13 +163,7 @@ pub extern "C" fn gulambitok_compare(
 }
 
 // Picture, of the stamps in a list of slots, one for each desk: 1 where the portal could have stood so, else 0 and two desks at odds.
-#[unsafe(no_mangle)]
-pub extern "C" fn gulambitok_picture(
-    book: &[u8],
-    slots: &[usize],
-    answer: &mut [u8],
-    odds: &mut [u8],
-) -> u8
+pub fn gulambitok_picture(book: &[u8], slots: &[usize], answer: &mut [u8], odds: &mut [u8]) -> u8
     ensures { Gives (answer_to book.now (on (Model.picture slots.now)))
         (byte_to answer.old answer.new ∷ odds_to odds.old odds.new ∷ []) result }
 {
@@ -196,8 +171,7 @@ pub extern "C" fn gulambitok_picture(
 }
 
 // Show copies the sixteen row bytes of a slot.
-#[unsafe(no_mangle)]
-pub extern "C" fn gulambitok_show(book: &[u8], slot: usize, row: &mut [u8]) -> u8
+pub fn gulambitok_show(book: &[u8], slot: usize, row: &mut [u8]) -> u8
     ensures { Gives (answer_to book.now (on (Model.show slot)))
         (row_to row.old row.new ∷ []) result }
 {
@@ -213,8 +187,7 @@ pub extern "C" fn gulambitok_show(book: &[u8], slot: usize, row: &mut [u8]) -> u
 }
 
 // Write fills the first 20 bytes with the stamp record of a slot, and no more.
-#[unsafe(no_mangle)]
-pub extern "C" fn gulambitok_write(book: &[u8], slot: usize, target: &mut [u8]) -> u8
+pub fn gulambitok_write(book: &[u8], slot: usize, target: &mut [u8]) -> u8
     ensures value { result ≡ (answer_to book.now (on (Model.write slot (length target.old)))).number }
     ensures target_after { target.new ≡ target_after book.now slot target.old }
 {
@@ -222,8 +195,7 @@ pub extern "C" fn gulambitok_write(book: &[u8], slot: usize, target: &mut [u8]) 
 }
 
 // Before, of two stamp records: 1 for yes, 0 for no.
-#[unsafe(no_mangle)]
-pub extern "C" fn gulambitok_label_before(
+pub fn gulambitok_label_before(
     desks: usize,
     phases: usize,
     limits: &[usize],
@@ -244,8 +216,7 @@ pub extern "C" fn gulambitok_label_before(
 }
 
 // Compare, of two stamp records: 1 before, 2 after, 3 same, 4 concurrent, 5 crossed.
-#[unsafe(no_mangle)]
-pub extern "C" fn gulambitok_label_compare(
+pub fn gulambitok_label_compare(
     desks: usize,
     phases: usize,
     limits: &[usize],
@@ -266,8 +237,7 @@ pub extern "C" fn gulambitok_label_compare(
 }
 
 // Newest of two stamp records: 1 the first, 2 the second, 0 neither.
-#[unsafe(no_mangle)]
-pub extern "C" fn gulambitok_label_newest(
+pub fn gulambitok_label_newest(
     desks: usize,
     phases: usize,
     limits: &[usize],

@@ -11,8 +11,7 @@ ghost use Rattle.door.specs.Door.{numbers_by, wished, place_to, learnt_to, slot_
 ghost use Rattle.gulambitok.specs.Filed.{Files};
 
 // Start, with the papers beside the book.
-#[unsafe(no_mangle)]
-pub extern "C" fn gulambitok_office_start(
+pub fn gulambitok_office_start(
     book: &mut [u8],
     summary: &mut [u8],
     desks: usize,
@@ -35,8 +34,7 @@ pub extern "C" fn gulambitok_office_start(
 }
 
 // Local, with the papers beside the book.
-#[unsafe(no_mangle)]
-pub extern "C" fn gulambitok_office_local(
+pub fn gulambitok_office_local(
     book: &mut [u8],
     summary: &mut [u8],
     desk: usize,
@@ -60,8 +58,7 @@ pub extern "C" fn gulambitok_office_local(
 }
 
 // Send, with the papers beside the book.
-#[unsafe(no_mangle)]
-pub extern "C" fn gulambitok_office_send(
+pub fn gulambitok_office_send(
     book: &mut [u8],
     summary: &mut [u8],
     desk: usize,
@@ -89,8 +86,7 @@ pub extern "C" fn gulambitok_office_send(
 }
 
 // Receive, with the papers beside the book.
-#[unsafe(no_mangle)]
-pub extern "C" fn gulambitok_office_receive(
+pub fn gulambitok_office_receive(
     book: &mut [u8],
     summary: &mut [u8],
     desk: usize,
@@ -118,8 +114,7 @@ pub extern "C" fn gulambitok_office_receive(
 }
 
 // Reset, with the papers beside the book.
-#[unsafe(no_mangle)]
-pub extern "C" fn gulambitok_office_reset(
+pub fn gulambitok_office_reset(
     book: &mut [u8],
     summary: &mut [u8],
     desk: usize,
@@ -143,8 +138,7 @@ pub extern "C" fn gulambitok_office_reset(
 }
 
 // Drop, with the papers beside the book.
-#[unsafe(no_mangle)]
-pub extern "C" fn gulambitok_office_drop(book: &mut [u8], summary: &mut [u8], slot: usize) -> u8
+pub fn gulambitok_office_drop(book: &mut [u8], summary: &mut [u8], slot: usize) -> u8
     ensures { Files (on (Model.drop slot))
         (folder book.old summary.old) (folder book.new summary.new) [] result }
 {
@@ -152,8 +146,7 @@ pub extern "C" fn gulambitok_office_drop(book: &mut [u8], summary: &mut [u8], sl
 }
 
 // Discard, with the papers beside the book.
-#[unsafe(no_mangle)]
-pub extern "C" fn gulambitok_office_discard(book: &mut [u8], summary: &mut [u8], place: usize) -> u8
+pub fn gulambitok_office_discard(book: &mut [u8], summary: &mut [u8], place: usize) -> u8
     ensures { Files (on (Model.discard place))
         (folder book.old summary.old) (folder book.new summary.new) [] result }
 {
@@ -161,8 +154,7 @@ pub extern "C" fn gulambitok_office_discard(book: &mut [u8], summary: &mut [u8],
 }
 
 // May: the number that a reset at a desk would be answered, by a setup and a summary alone; 0 for yes.
-#[unsafe(no_mangle)]
-pub extern "C" fn gulambitok_may(
+pub fn gulambitok_may(
     desks: usize,
     phases: usize,
     limits: &[usize],

@@ -1,0 +1,150 @@
+// The C interface of the office (docs/RULES.md), as an archive exports it: each function is that of gulambitok by its name.
+ghost use Rattle.std.specs.Prelude.{[], ◌∷◌};
+ghost use Rattle.rules.specs.Setups.{setup_with};
+ghost use Rattle.rules.specs.Model;
+ghost use Rattle.rules.specs.Calls;
+ghost use Rattle.rules.specs.Calls.{on};
+ghost use Rattle.summary.specs.May.{may_of};
+ghost use Rattle.office.specs.Office.{folder};
+ghost use Rattle.door.specs.Door.{numbers_by, wished, place_to, learnt_to, slot_to, stamp_to, foretold_to, Gives};
+ghost use Rattle.gulambitok.specs.Filed.{Files};
+
+// Start, with the papers beside the book.
+#[unsafe(no_mangle)]
+pub extern "C" fn gulambitok_office_start(
+    book: &mut [u8],
+    summary: &mut [u8],
+    desks: usize,
+    phases: usize,
+    limits: &[usize],
+    seat_lag: usize,
+    shelf_lag: usize,
+    back: usize,
+    ahead: usize,
+) -> u8
+    ensures { Files (Calls.start (setup_with (numbers_by desks phases seat_lag shelf_lag back ahead) limits.now))
+        (folder book.old summary.old) (folder book.new summary.new) [] result }
+{
+    gulambitok::papers::gulambitok_office_start(
+        book, summary, desks, phases, limits, seat_lag, shelf_lag, back, ahead,
+    )
+}
+
+// Local, with the papers beside the book.
+#[unsafe(no_mangle)]
+pub extern "C" fn gulambitok_office_local(
+    book: &mut [u8],
+    summary: &mut [u8],
+    desk: usize,
+    keep: usize,
+    stamp: &mut [u8],
+    slot: &mut [u8],
+) -> u8
+    ensures { Files (on (Model.local desk (wished keep)))
+        (folder book.old summary.old) (folder book.new summary.new)
+        (stamp_to book.old stamp.old stamp.new
+        ∷ slot_to (wished keep) slot.old slot.new ∷ []) result }
+{
+    gulambitok::papers::gulambitok_office_local(book, summary, desk, keep, stamp, slot)
+}
+
+// Send, with the papers beside the book.
+#[unsafe(no_mangle)]
+pub extern "C" fn gulambitok_office_send(
+    book: &mut [u8],
+    summary: &mut [u8],
+    desk: usize,
+    to: usize,
+    keep: usize,
+    stamp: &mut [u8],
+    place: &mut [u8],
+    slot: &mut [u8],
+) -> u8
+    ensures { Files (on (Model.send desk to (wished keep)))
+        (folder book.old summary.old) (folder book.new summary.new)
+        (stamp_to book.old stamp.old stamp.new ∷ place_to place.old place.new
+        ∷ slot_to (wished keep) slot.old slot.new ∷ []) result }
+{
+    gulambitok::papers::gulambitok_office_send(book, summary, desk, to, keep, stamp, place, slot)
+}
+
+// Receive, with the papers beside the book.
+#[unsafe(no_mangle)]
+pub extern "C" fn gulambitok_office_receive(
+    book: &mut [u8],
+    summary: &mut [u8],
+    desk: usize,
+    place: usize,
+    keep: usize,
+    stamp: &mut [u8],
+    learnt: &mut [u8],
+    slot: &mut [u8],
+) -> u8
+    ensures { Files (on (Model.receive desk place (wished keep)))
+        (folder book.old summary.old) (folder book.new summary.new)
+        (stamp_to book.old stamp.old stamp.new ∷ learnt_to learnt.old learnt.new
+        ∷ slot_to (wished keep) slot.old slot.new ∷ []) result }
+{
+    gulambitok::papers::gulambitok_office_receive(
+        book, summary, desk, place, keep, stamp, learnt, slot,
+    )
+}
+
+// Reset, with the papers beside the book.
+#[unsafe(no_mangle)]
+pub extern "C" fn gulambitok_office_reset(
+    book: &mut [u8],
+    summary: &mut [u8],
+    desk: usize,
+    keep: usize,
+    stamp: &mut [u8],
+    slot: &mut [u8],
+) -> u8
+    ensures { Files (on (Model.reset desk (wished keep)))
+        (folder book.old summary.old) (folder book.new summary.new)
+        (stamp_to book.old stamp.old stamp.new
+        ∷ slot_to (wished keep) slot.old slot.new ∷ []) result }
+{
+    gulambitok::papers::gulambitok_office_reset(book, summary, desk, keep, stamp, slot)
+}
+
+// Drop, with the papers beside the book.
+#[unsafe(no_mangle)]
+pub extern "C" fn gulambitok_office_drop(book: &mut [u8], summary: &mut [u8], slot: usize) -> u8
+    ensures { Files (on (Model.drop slot))
+        (folder book.old summary.old) (folder book.new summary.new) [] result }
+{
+    gulambitok::papers::gulambitok_office_drop(book, summary, slot)
+}
+
+// Discard, with the papers beside the book.
+#[unsafe(no_mangle)]
+pub extern "C" fn gulambitok_office_discard(book: &mut [u8], summary: &mut [u8], place: usize) -> u8
+    ensures { Files (on (Model.discard place))
+        (folder book.old summary.old) (folder book.new summary.new) [] result }
+{
+    gulambitok::papers::gulambitok_office_discard(book, summary, place)
+}
+
+// May: the number that a reset at a desk would be answered, by a setup and a summary alone; 0 for yes.
+#[unsafe(no_mangle)]
+pub extern "C" fn gulambitok_may(
+    desks: usize,
+    phases: usize,
+    limits: &[usize],
+    seat_lag: usize,
+    shelf_lag: usize,
+    back: usize,
+    ahead: usize,
+    summary: &[u8],
+    desk: usize,
+    answer: &mut [u8],
+) -> u8
+    ensures { Gives
+        (may_of (setup_with (numbers_by desks phases seat_lag shelf_lag back ahead) limits.now) summary.now desk)
+        (foretold_to answer.old answer.new ∷ []) result }
+{
+    gulambitok::papers::gulambitok_may(
+        desks, phases, limits, seat_lag, shelf_lag, back, ahead, summary, desk, answer,
+    )
+}
