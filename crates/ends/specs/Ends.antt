@@ -1,6 +1,8 @@
 -- How the program meets its two ends, standard input and standard output.
 -- Assumes nothing.
---   reason_of e          the number of the reason e why a call fails: the system's number, or else one by e's kind, or else 0
+--   kind_reason k        the number of a reason of the kind k, as the system would give it: EAGAIN (11), EINTR (4), EPIPE (32), or else 0
+--   number_of n k        the system's number n, where there is one; else that of the kind k
+--   reason_of e          the number of the reason e why a call fails
 --   got_of r             how many bytes a call moves that answers r, or -1 where it fails
 --   error_of r           the number of the reason why it fails, or 0 where it does not
 --   failure_went e bad   what becomes of the run where a call fails for the system's reason e: EAGAIN (11) and EINTR (4) go on, as the
