@@ -1,10 +1,10 @@
 -- What one line does on a book with the papers beside it.
 -- Assumes nothing.
---   printable    the answer to an act has room for the pairs of the book's desks
+--   printable    an act is accepted only in a book of at most eight desks, whose pairs can be printed
 --   asked        a question is answered by the book alone, and leaves every byte of it and of the papers
---   Obeyed       what a line prints from a place on, and the book and the papers that it leaves
---   printed      a line is obeyed by doing what its command asks for and printing the answer, with the desks of the book
---   printed_any  the same of an answer that is printed alike for any desks
+--   Obeyed       what a line prints, and the book and the papers that it leaves
+--   obeyed       a line is obeyed by doing what it asks for and printing the answer, with the desks of the book
+--   printed      the same of a line that has a command
 --   blind        a line's answer goes by the bytes of it that are kept
 --   bad_line     a BadLine prints its number, and changes nothing
 --   long_line, no_line   a line over 64 bytes, and an empty one, is a BadLine
@@ -14,7 +14,7 @@
 --   line_no_event   NoEvent is answered to no line
 --   no_setup, many_desks, told_may   may where the book tells no setup, one of too many desks, and any other
 use Prim.Native.Nat.{ℕ, zero, suc, ◌≤◌, ◌<◌}
-use mathlib.Core.Path.{◌≡◌, refl, sym, ap, subst, ◌∙◌}
+use mathlib.Core.Path.{◌≡◌, refl, sym, ap, ◌∙◌}
 use mathlib.Core.Bool.{Bool, true, false, not}
 use mathlib.Core.List.{List, [], ◌∷◌, ◌++◌, cons≢nil}
 use mathlib.Core.Option.{Option, none, some}
@@ -22,6 +22,8 @@ use native.Mathlib.Omega.{arith}
 use borrow.Author.Tests.{eq-eqb, ne_eqb}
 use lib.Dec.{eqb, ltb}
 use lib.ListN.{length}
+use Rattle.std.specs.Prelude.{Some, Result, Ok, Err}
+use Rattle.std.specs.Prelude as Std
 use Rattle.tools.specs.Tests.{pick, all_of, all_below, within}
 use Rattle.tools.specs.Lists.{byte}
 use Rattle.tools.specs.Reasons.{if_done}
@@ -29,10 +31,13 @@ use Rattle.tools.proofs.Tests.{not_each}
 use Rattle.rules.specs.declared.SetupNumbers.{SetupNumbers}
 use Rattle.rules.specs.Setups.{Setup, setup_with, in_range, permits}
 use Rattle.rules.proofs.Setups.{permitted}
-use Rattle.rules.specs.Model.{Act, Question, ask, Answer, refusal, foretells, done}
+use Rattle.rules.specs.Model.{Act, Question, ask, Value, Answer, refusal, foretells, done}
+use Rattle.rules.specs.Replies.{answer_by, number_in}
+use Rattle.rules.specs.declared.Refusal.{Refusal}
 use Rattle.rules.specs.Calls.{Call, start, on, alters}
 use Rattle.rules.specs.Labels.{settle_off}
-use Rattle.rules.specs.Numbers.{NoEvent, number}
+use Rattle.rules.specs.declared.Refusal.TheVariants.{NoEvent}
+use Rattle.rules.specs.Numbers.{number}
 use Rattle.book.specs.Layout.{book_size, limits_of, setup_of}
 use Rattle.book.specs.Sound.{sound}
 use Rattle.book.specs.Codec.{decode}
@@ -52,13 +57,12 @@ use Rattle.office.proofs.Papers.{together_which, together_same, together_first}
 use Rattle.office.proofs.Office.{office_accepts, office_refused}
 use Rattle.text.proofs.Streams.{Blind}
 use Rattle.text.specs.Words.{ascii, opens}
-use Rattle.text.specs.Put.{Wrote}
 use Rattle.commands.specs.declared.Command.{Command}
-use Rattle.commands.specs.Lines.{Wanted, makes, asks_may, shaped, miscounted, verbs, asks, choose, parse_of, wanted_by}
+use Rattle.commands.specs.Lines.{Wanted, makes, asks_may, shaped, miscounted, verbs, asks, choose, parse_of, wanted_by, wanted_in}
 use Rattle.commands.specs.Written.{numbers_of, text_of, Spoken, Small}
 use Rattle.commands.proofs.Shapes.{sift, long_bad, kept_enough}
 use Rattle.commands.proofs.Exact.{written, bad_count}
-use Rattle.replies.specs.Print.{answer_text, Printable}
+use Rattle.replies.specs.Print.{answer_text}
 use Rattle.answering.specs.Answering.{may_on, answer_of, folder_of, wanted_text, line_text, line_folder, answering}
 
 few : (b : List ℕ) (c : Act) → (answer_to b (on c)).number ≡ 0 → byte b 2 ≤ 8
@@ -69,10 +73,17 @@ few b c e = go (sound b) refl e
     go true h e = few_desks b h
     go false h e = absurd (omega (arith, rw (answer_to, h) at e))
 
-pub printable : (f : Folder) (c : Act) (D : ℕ) → D ≡ byte f.book 2 → (a : Answer) → a ≡ office_answer f (on c) → Printable D a
-printable f c D d a x e =
-    let z = ((office_accepts f (on c)).0 (ap (λ (y : Answer). y.number) (sym x) ∙ e)).0 in
+pub printable
+    : (f : Folder) (c : Act) (D : ℕ) → D ≡ byte f.book 2
+    → {A : Type 0} (v : A → Value) (r : Result A Refusal) → answer_by v r ≡ office_answer f (on c)
+    → number_in r ≡ 0 → D ≤ 8
+printable f c D d v r x e =
+    let z = ((office_accepts f (on c)).0 (ap (λ (y : Answer). y.number) (sym x) ∙ numbered v r ∙ e)).0 in
     omega (arith, few f.book c z)
+  where
+    numbered : {A : Type 0} (v : A → Value) (r : Result A Refusal) → (answer_by v r).number ≡ number_in r
+    numbered v (Ok x) = refl
+    numbered v (Err n) = refl
 
 -- a question leaves every byte of the book
 same_book : (s : List ℕ) (q : Question) → book_after s (on (ask q)) ≡ s
@@ -93,25 +104,24 @@ asked f q =
     go zero e = λ i. folder (sym e i) f.summary
     go (suc n) e = refl
 
-abbrev pub Obeyed : Folder → List ℕ → ℕ → List ℕ → Folder → List ℕ → ℕ → Type 0
-Obeyed f o at l f' o' r = Wrote o at (line_text f l) o' r × (f' ≡ line_folder f l)
+abbrev pub Obeyed : Folder → List ℕ → Folder → List ℕ → Type 0
+Obeyed f l f' o = (o ≡ line_text f l) × (f' ≡ line_folder f l)
+
+-- what the line l asks for is w; what it prints is o
+module _ (f : Folder) (l : List ℕ) (w : Option Wanted) (p : w ≡ parse_of l) (f' : Folder) (o : List ℕ) (a : Answer) where
+  pub obeyed : a ≡ answer_of f w → f' ≡ folder_of f w → (D : ℕ) → D ≡ byte f.book 2
+      → o ≡ answer_text D a → Obeyed f l f' o
+  unfolding line_text line_folder
+  obeyed x g D d e =
+      let y : a ≡ answer_of f (parse_of l) = x ∙ ap (answer_of f) p in
+      (e ∙ (λ i. answer_text (d i) (y i)), g ∙ ap (folder_of f) p)
 
 -- m, the command of the line l, is n
-module _ (f : Folder) (o : List ℕ) (at : ℕ) (l : List ℕ) (m n : Command) (p : wanted_by l m ≡ parse_of l) (e : m ≡ n)
-    (f' : Folder) (o' : List ℕ) (r : ℕ) (a : Answer) where
-  read : wanted_by l n ≡ parse_of l
-  read = ap (wanted_by l) (sym e) ∙ p
-
-  pub printed : a ≡ answer_of f (wanted_by l n) → f' ≡ folder_of f (wanted_by l n) → (D : ℕ) → D ≡ byte f.book 2
-      → Wrote o at (answer_text D a) o' r → Obeyed f o at l f' o' r
-  unfolding line_text line_folder
-  printed x g D d w =
-      let y : a ≡ answer_of f (parse_of l) = x ∙ ap (answer_of f) read in
-      (subst (λ s. Wrote o at s o' r) (λ i. answer_text (d i) (y i)) w, g ∙ ap (folder_of f) read)
-
-  pub printed_any : a ≡ answer_of f (wanted_by l n) → f' ≡ folder_of f (wanted_by l n) → ((D : ℕ) → Wrote o at (answer_text D a) o' r)
-      → Obeyed f o at l f' o' r
-  printed_any x g w = printed x g (byte f.book 2) refl (w (byte f.book 2))
+module _ (f : Folder) (l : List ℕ) (r : Std.Option Command) (p : wanted_in r ≡ parse_of l) (m : Command) (s : r ≡ Some m)
+    (n : Command) (e : m ≡ n) (f' : Folder) (o : List ℕ) (a : Answer) where
+  pub printed : a ≡ answer_of f (some (wanted_by n)) → f' ≡ folder_of f (some (wanted_by n)) → (D : ℕ) → D ≡ byte f.book 2
+      → o ≡ answer_text D a → Obeyed f l f' o
+  printed = obeyed f l (some (wanted_by n)) (ap wanted_in (sym (s ∙ ap (λ (c : Command). Some c) e)) ∙ p) f' o a
 
 pub blind : Blind answering
 unfolding line_text line_folder

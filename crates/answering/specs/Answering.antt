@@ -11,7 +11,8 @@ use Rattle.std.specs.Prelude.{ℕ, List, eqb, length}
 use Rattle.std.proofs.Math.Option.{Option, none, some}
 use Rattle.tools.specs.Tests.{pick}
 use Rattle.rules.specs.Model.{Answer, refusal}
-use Rattle.rules.specs.Numbers.{BadSetup, BadLine, number}
+use Rattle.rules.specs.declared.Refusal.TheVariants.{BadSetup, BadLine}
+use Rattle.rules.specs.Numbers.{number}
 use Rattle.book.specs.Layout.{book_size, setup_of}
 use Rattle.book.specs.Codec.{decode}
 use Rattle.summary.specs.May.{may_of}

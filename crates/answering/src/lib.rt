@@ -2,135 +2,89 @@
 
 #![tactic(auto)]
 
-ghost use Rattle.std.specs.Prelude.{◌≡◌, ◌+◌, ◌*◌, ◌≤◌, length};
+ghost use Rattle.std.specs.Prelude.{◌≡◌, ◌+◌, ◌≤◌, ◌++◌, length};
 ghost use Rattle.tools.specs.Lists.{byte, tab};
-ghost use Rattle.rules.specs.Setups.{setup_with};
-ghost use Rattle.rules.specs.Model;
-ghost use Rattle.rules.specs.Model.{refusal};
-ghost use Rattle.rules.specs.Calls.{start, on};
-ghost use Rattle.rules.specs.Replies.{pictured_says, foretold_says};
-ghost use Rattle.book.specs.Layout.{book_size, seats, spot, tag_b_spot};
-ghost use Rattle.book.specs.Answers.{answer_to};
-ghost use Rattle.office.specs.Office.{folder, office_answer, folder_after};
-ghost use Rattle.text.specs.Digits.{numbers_at};
-ghost use Rattle.text.specs.Put.{Wrote};
-ghost use Rattle.commands.specs.Lines.{parse_of, limits_at, slots_at, wanted_by};
+ghost use Rattle.rules.specs.Replies.{foretold_says};
+ghost use Rattle.book.specs.Layout.{seats, spot, tag_b_spot};
+ghost use Rattle.office.specs.Office.{folder};
 ghost use Rattle.replies.specs.Print.{longest};
 ghost use Rattle.answering.specs.Answering.{may_on, line_text, line_folder};
 
+use arrayvec::ArrayVec;
 use commands::Command;
-use rules::{Foretold, Pictured, SetupNumbers};
+use parts::BookBytes;
+use replies::Line;
+use rules::{GivenSetup, Refusal};
 
-// Start, with the limits of a line that has so many.
-fn begin(book: &mut [u8], summary: &mut [u8], line: &[u8], s: SetupNumbers, count: usize) -> u8
-    requires { (count ≤ 8) × (limits_at + 4 * count ≤ length line.now) }
-    ensures result_value { refusal result ≡ office_answer (folder book.old summary.old)
-        (start (setup_with s (numbers_at line.now limits_at count))) }
-    ensures summary_after { folder book.new summary.new ≡ folder_after (folder book.old summary.old)
-        (start (setup_with s (numbers_at line.now limits_at count))) }
-{
-    let limits = commands::limits_of(line, count);
-    office::start(book, summary, s, &limits[0..count])
-}
-
-// Picture, of the slots of a line that has so many.
-fn ask_picture(book: &[u8], line: &[u8], count: usize) -> Pictured
-    requires { (count ≤ 14) × (slots_at + 4 * count ≤ length line.now) }
-    ensures { pictured_says result ≡ answer_to book.now (on (Model.picture (numbers_at line.now slots_at count))) }
-{
-    let slots = commands::slots_of(line, count);
-    portal::picture(book, &slots[0..count])
-}
-
-// The limits in the eight seats of a book.
-fn limits_of(book: &[u8]) -> [usize; 8]
-    requires { length book.now ≡ book_size }
+// The limits in the eight seats of a book. A loop, since of an array made by a closure nothing tells which book the closure asked.
+fn limits_of(book: &BookBytes) -> [usize; 8]
     ensures { result ≡ tab 0 seats (λ j. byte book.now (spot j tag_b_spot)) }
 {
-    let mut limits = [0usize; 8];
-    let mut j: usize = 0;
-    while j < parts::SEATS {
-        limits[j] = tools::wide(parts::tag_b(book, j));
-        j += 1;
+    let mut limits = [0; parts::SEATS];
+    for j in 0..parts::SEATS {
+        limits[j] = usize::from(parts::tag_b(book, j));
     }
     limits
 }
 
 // May, by the summary held and the setup that the book tells. No setup of more desks than seats is permitted.
-fn ask_may(book: &[u8], summary: &[u8], desk: usize) -> Foretold
+fn ask_may(book: &[u8], summary: &[u8], desk: usize) -> Result<Option<Refusal>, Refusal>
     ensures { foretold_says result ≡ may_on (folder book.now summary.now) desk }
 {
-    if book.len() != parts::BOOK_BYTES {
-        return Foretold::Refused(rules::BAD_SETUP);
-    }
-    let d = parts::desks_of(book);
-    if parts::SEATS < d {
-        return Foretold::Refused(rules::BAD_SETUP);
-    }
-    let limits = limits_of(book);
-    summary::may(parts::numbers_of(book), &limits[0..d], summary, desk)
+    let book = book
+        .as_array::<{ parts::BOOK_BYTES }>()
+        .ok_or(Refusal::BadSetup)?;
+    let all = limits_of(book);
+    let limits = all.get(..parts::desks_of(book)).ok_or(Refusal::BadSetup)?;
+    let numbers = parts::numbers_of(book);
+    let setup = GivenSetup { numbers, limits };
+    summary::may(setup, summary, desk)
 }
 
-// What a line's command asks for is done, and its answer is printed; a BadLine asks for nothing.
-fn obey(
-    book: &mut [u8],
-    summary: &mut [u8],
-    out: &mut [u8],
-    at: usize,
-    line: &[u8],
-    c: Command,
-) -> usize
-    requires { (at + longest ≤ length out.old) × (wanted_by line.now c ≡ parse_of line.now) }
-    ensures wrote { Wrote out.old at (line_text (folder book.old summary.old) line.now)
-        out.new result }
-    ensures summary_after { folder book.new summary.new
-        ≡ line_folder (folder book.old summary.old) line.now }
+// What the command of a line asks for is done, and the answer is its line; a BadLine asks for nothing.
+fn obey(book: &mut [u8], summary: &mut [u8], line: &[u8]) -> Line
+    ensures wrote { result.items ≡ line_text (folder book.old summary.old) line.now }
+    ensures summary_after { folder book.new summary.new ≡ line_folder (folder book.old summary.old) line.now }
 {
     let desks = portal::desks_in(&book[..]);
-    match c {
-        Command::Start(s, n) => replies::put_number(out, at, begin(book, summary, line, s, n)),
-        Command::Local(d, q) => replies::put_stamped(
-            out,
-            at,
-            desks,
-            office::local(book, summary, d, q),
-        ),
-        Command::Send(d, k, q) => replies::put_sent(
-            out,
-            at,
-            desks,
-            office::send(book, summary, d, k, q),
-        ),
-        Command::Receive(d, p, q) => replies::put_received(
-            out,
-            at,
+    let Some(command) = commands::parse(line) else {
+        return replies::line_of(desks, Err::<(), _>(Refusal::BadLine));
+    };
+    match command {
+        Command::Start(numbers, limits) => {
+            let setup = GivenSetup {
+                numbers,
+                limits: &limits[..],
+            };
+            replies::line_of(desks, office::start(book, summary, setup))
+        }
+        Command::Local(d, q) => replies::line_of(desks, office::local(book, summary, d, q)),
+        Command::Send(d, k, q) => replies::line_of(desks, office::send(book, summary, d, k, q)),
+        Command::Receive(d, p, q) => replies::line_of(
             desks,
             office::receive(book, summary, d, p, q),
         ),
-        Command::Reset(d, q) => replies::put_stamped(
-            out,
-            at,
-            desks,
-            office::reset(book, summary, d, q),
-        ),
-        Command::Drop(s) => replies::put_number(out, at, office::drop(book, summary, s)),
-        Command::Discard(p) => replies::put_number(out, at, office::discard(book, summary, p)),
-        Command::Before(s, t) => replies::put_told(out, at, portal::before(book, s, t)),
-        Command::Compare(s, t) => replies::put_compared(out, at, portal::compare(book, s, t)),
-        Command::May(d) => replies::put_foretold(out, at, ask_may(book, summary, d)),
-        Command::Picture(n) => replies::put_pictured(out, at, ask_picture(book, line, n)),
-        Command::Bad => replies::put_number(out, at, rules::BAD_LINE),
+        Command::Reset(d, q) => replies::line_of(desks, office::reset(book, summary, d, q)),
+        Command::Drop(s) => replies::line_of(desks, office::drop(book, summary, s)),
+        Command::Discard(p) => replies::line_of(desks, office::discard(book, summary, p)),
+        Command::Before(s, t) => replies::line_of(desks, portal::before(book, s, t)),
+        Command::Compare(s, t) => replies::line_of(desks, portal::compare(book, s, t)),
+        Command::May(d) => replies::line_of(desks, ask_may(book, summary, d)),
+        Command::Picture(slots) => replies::line_of(desks, portal::picture(book, &slots[..])),
     }
 }
 
-// A line is answered.
-pub fn answer(book: &mut [u8], summary: &mut [u8], out: &mut [u8], at: usize, line: &[u8]) -> usize
-    requires { at + longest ≤ length out.old }
-    ensures wrote { Wrote out.old at (line_text (folder book.old summary.old) line.now)
-        out.new result }
-    ensures summary_after { folder book.new summary.new
-        ≡ line_folder (folder book.old summary.old) line.now }
+// A line is answered: what it prints is written on a page.
+pub fn answer<const N: usize>(
+    book: &mut [u8],
+    summary: &mut [u8],
+    page: &mut ArrayVec<u8, N>,
+    line: &[u8],
+)
+    requires { length page.old.items + longest ≤ N }
+    ensures wrote { page.new.items ≡ page.old.items ++ line_text (folder book.old summary.old) line.now }
+    ensures summary_after { folder book.new summary.new ≡ line_folder (folder book.old summary.old) line.now }
 {
-    let c = commands::parse(line);
-    obey(book, summary, out, at, line, c)
+    let told = obey(book, summary, line);
+    text::put_text(page, told.as_slice());
 }

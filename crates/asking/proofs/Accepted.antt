@@ -2,7 +2,7 @@
 -- Assumes nothing.
 use Prim.Native.Nat.{ℕ, ◌+◌, ◌≤◌}
 use mathlib.Core.Path.{◌≡◌, sym, ap, ◌∙◌, subst}
-use mathlib.Core.Bool.{false, ◌||◌}
+use mathlib.Core.Bool.{Bool, false, ◌||◌}
 use mathlib.Core.Option.{Option}
 use mathlib.Core.List.{List}
 use native.Mathlib.Omega.{arith}
@@ -14,8 +14,9 @@ use Rattle.tools.specs.Reasons.{if_done}
 use Rattle.tools.proofs.Lists.{is_tab}
 use Rattle.ring.specs.Phases.{Gap}
 use Rattle.rules.specs.Setups.{Setup}
-use Rattle.rules.specs.declared.Told.{Told}
-use Rattle.rules.specs.declared.Compared.{Compared}
+use Rattle.std.specs.Prelude.{Result}
+use Rattle.rules.specs.declared.Refusal.{Refusal}
+use Rattle.rules.specs.declared.Relation.{Relation}
 use Rattle.rules.specs.Model.{Row, before, compare, show, write, Answer, by_in, row_in, no_slot, gap_from, done, ask_tells}
 use Rattle.rules.specs.Calls.{on, ring_of, call}
 use Rattle.rules.specs.Replies.{row_bytes, row_of, told_says, compared_says}
@@ -68,7 +69,7 @@ module _ (s : List ℕ) (i k : ℕ) (two : Two s i k) (X : Setup) (same : X ≡ 
       (subst (λ (Y : Setup). WayOf Y back (by_in ((tables_of s).shelf k)) other one v) (sym same) h)
 
   module _ (w : Way) (h : WayBetween s i k w) where
-    pub before_answered : (r : Told)
+    pub before_answered : (r : Result Bool Refusal)
         → ((g : Option Gap) (e f : Row) → WayOf X g j e f w → told_says r ≡ before_by g j l e f)
         → told_says r ≡ answer_to s (on (before i k))
     unfolding admits call
@@ -78,7 +79,7 @@ module _ (s : List ℕ) (i k : ℕ) (two : Two s i k) (X : Setup) (same : X ≡ 
         ∙ before_on (ring_of (setup_of s)) (setup_of s) (tables_of s) i k used
         ∙ sym (answer_is s (on (before i k)) two.whole)
 
-    pub compare_answered : (v : Way) → WayBetween s k i v → (r : Compared)
+    pub compare_answered : (v : Way) → WayBetween s k i v → (r : Result Relation Refusal)
         → ((g h : Option Gap) (e f : Row) → WayOf X g j e f w → WayOf X h l f e v → compared_says r ≡ compare_by g h j l e f)
         → compared_says r ≡ answer_to s (on (compare i k))
     unfolding admits call

@@ -77,7 +77,7 @@ module _ (s : List ℕ) (h : sound s ≡ true) (i k : ℕ) (n : no_slot (tables_
 
     pub way_lags : (up down from to : ℕ) → up ≡ lag_in s j (shelf_from + i) → down ≡ lag_in s j (shelf_from + k)
         → from ≡ byte s (spot (shelf_from + i) (row_spot + clock_spot j)) → to ≡ byte s (spot (shelf_from + k) (row_spot + clock_spot j))
-        → WayBetween s i k (record { up = up; down = down; from = from; to = to })
+        → WayBetween s i k (record { gap = record { up = up; down = down }; from = from; to = to })
     way_lags up down from to u d f t =
         record {
           gap = gap_lags ∙ (λ x. near (setup_of s) (sym f x) (record { up = sym u x; down = sym d x }));

@@ -2,7 +2,7 @@
 
 #![tactic(auto)]
 
-ghost use Rattle.std.specs.Prelude.{◌≡◌, true, false, length};
+ghost use Rattle.std.specs.Prelude.{◌≡◌, true, false};
 ghost use Rattle.rules.specs.Model;
 ghost use Rattle.rules.specs.Model.{by_in, no_slot};
 ghost use Rattle.rules.specs.Calls.{on};
@@ -10,46 +10,45 @@ ghost use Rattle.rules.specs.Replies.{told_says, compared_says};
 ghost use Rattle.book.specs.Sound.{sound};
 ghost use Rattle.book.specs.Answers.{answer_to, part_of, part_from};
 ghost use Rattle.book.specs.Numbers.{tables_of, number_of};
-ghost use Rattle.book.specs.Layout.{book_size};
 ghost use Rattle.refusals.specs.First.{slots_number};
 ghost use Rattle.parts.specs.Slices.{place};
 ghost use Rattle.asking.specs.Slots.{WayBetween, record_for};
 
 use comparing::Way;
-use rules::{Compared, Stamp, Told};
+use parts::BookBytes;
+use ring::Gap;
+use rules::{Refusal, Relation, Stamp};
 
 // The owner of the stamp in a used slot.
-pub fn owner_of(book: &[u8], slot: usize) -> u8
-    requires book_len { length book.now ≡ book_size }
-    requires slot_value { no_slot (tables_of book.now) slot ≡ false }
+pub fn owner_of(book: &BookBytes, slot: usize) -> u8
+    requires { no_slot (tables_of book.now) slot ≡ false }
     ensures { result ≡ by_in ((tables_of book.now).shelf slot) }
 {
     parts::tag_a(book, parts::SHELF + slot) - 1
 }
 
 // The way from the stamp in one used slot to that in another: d is lag of e's entry minus lag of f's entry.
-fn way_of(book: &[u8], first: usize, second: usize) -> Way
-    requires book_len { (length book.now ≡ book_size) × (sound book.now ≡ true) }
-    requires first_value { (no_slot (tables_of book.now) first ≡ false) × (no_slot (tables_of book.now) second ≡ false) }
+fn way_of(book: &BookBytes, first: usize, second: usize) -> Way
+    requires whole { sound book.now ≡ true }
+    requires first { no_slot (tables_of book.now) first ≡ false }
+    requires second { no_slot (tables_of book.now) second ≡ false }
     ensures { WayBetween book.now first second result }
 {
-    let owner = tools::wide(owner_of(book, first));
+    let owner = usize::from(owner_of(book, first));
     let e = parts::SHELF + first;
     let f = parts::SHELF + second;
     let last = parts::last_phase(book);
     let own = parts::phase_at(book, owner, owner);
-    let e_phase = parts::phase_at(book, e, owner);
-    let f_phase = parts::phase_at(book, f, owner);
-    Way {
-        up: ring::lag(own, e_phase, last),
-        down: ring::lag(own, f_phase, last),
-        from: parts::clock_at(book, e, owner),
-        to: parts::clock_at(book, f, owner),
-    }
+    let up = ring::lag(own, parts::phase_at(book, e, owner), last);
+    let down = ring::lag(own, parts::phase_at(book, f, owner), last);
+    let from = parts::clock_at(book, e, owner);
+    let to = parts::clock_at(book, f, owner);
+    let gap = Gap { up, down };
+    Way { gap, from, to }
 }
 
 // Before, of two used slots: OutOfReach, or yes or no.
-pub fn told(book: &[u8], first: usize, second: usize) -> Told
+pub fn told(book: &BookBytes, first: usize, second: usize) -> Result<bool, Refusal>
     requires { slots_number book.now first second ≡ 0 }
     ensures { told_says result ≡ answer_to book.now (on (Model.before first second)) }
 {
@@ -60,7 +59,7 @@ pub fn told(book: &[u8], first: usize, second: usize) -> Told
 }
 
 // Compare, of two used slots: OutOfReach, or the relation.
-pub fn compared(book: &[u8], first: usize, second: usize) -> Compared
+pub fn compared(book: &BookBytes, first: usize, second: usize) -> Result<Relation, Refusal>
     requires { slots_number book.now first second ≡ 0 }
     ensures { compared_says result ≡ answer_to book.now (on (Model.compare first second)) }
 {
@@ -72,7 +71,7 @@ pub fn compared(book: &[u8], first: usize, second: usize) -> Compared
     comparing::compared(setup, owner, other, there, back)
 }
 
-// The sixteen row bytes of a slot that show accepts, as a part of the book itself.
+// The sixteen row bytes of a slot that show accepts, as a part of the book itself: so it takes the very slice that the caller lent.
 pub fn row_part(book: &[u8], slot: usize) -> &[u8]
     requires { number_of book.now (Model.show slot) ≡ 0 }
     ensures result_value { result.now ≡ part_of book.now slot }
@@ -84,14 +83,11 @@ pub fn row_part(book: &[u8], slot: usize) -> &[u8]
 }
 
 // The stamp record of a slot that write accepts.
-pub fn record_at(book: &[u8], slot: usize, room: usize) -> [u8; 20]
+pub fn record_at(book: &BookBytes, slot: usize, room: usize) -> [u8; 20]
     requires { number_of book.now (Model.write slot room) ≡ 0 }
     ensures { result ≡ record_for book.now slot room }
 {
     let row = rows::row_array(book, parts::SHELF + slot);
-    let stamp = Stamp {
-        owner: owner_of(book, slot),
-        row: row,
-    };
-    labels::record_of(parts::desks_of(book) as u8, stamp)
+    let owner = owner_of(book, slot);
+    labels::record_of(parts::desks_of(book) as u8, Stamp { owner, row })
 }

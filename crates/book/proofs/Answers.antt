@@ -11,7 +11,8 @@ use Rattle.tools.specs.Lists.{byte}
 use Rattle.tools.specs.Reasons.{if_done}
 use Rattle.tools.proofs.Reasons.{if_undone}
 use Rattle.rules.specs.Setups.{Setup, limit, permits}
-use Rattle.rules.specs.Numbers.{BadBook, NoEvent, number}
+use Rattle.rules.specs.declared.Refusal.TheVariants.{BadBook, NoEvent}
+use Rattle.rules.specs.Numbers.{number}
 use Rattle.rules.specs.Model.{Act, fresh, Answer, refusal}
 use Rattle.rules.specs.Calls.{Book, Call, start, on, Turn, ring_of, settled, call}
 use Rattle.book.specs.Fits.{Fits}

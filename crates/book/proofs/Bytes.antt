@@ -19,7 +19,8 @@ use Rattle.rules.specs.Setups.{Setup}
 use Rattle.rules.specs.Replies.{row_byte}
 use Rattle.rules.proofs.RowBytes.{row_phase, row_clock, row_alike}
 use Rattle.book.specs.Layout.{tag_a_spot, tag_b_spot, book_size, records, seats, row_spot, phase_spot, clock_spot}
-use Rattle.book.specs.Layout.{Record, Fields, spot, phases_byte, head_byte, mark0, mark1, marked_byte, record_byte, byte_of, layout, limits_of, setup_of, row_at}
+use Rattle.book.specs.Layout.{Record, Fields, spot, phases_byte, head_byte, mark0, mark1, marked_byte, record_byte, byte_of}
+use Rattle.book.specs.Layout.{layout, limits_of, setup_of, row_at}
 use Rattle.book.specs.Layout.{fields, Holds}
 
 -- the row that stands in the bytes

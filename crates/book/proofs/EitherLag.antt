@@ -16,7 +16,8 @@ use Rattle.ring.proofs.Ring.{lag_remainder}
 use Rattle.rules.specs.Setups.{Setup}
 use Rattle.rules.proofs.Setups.{permitted}
 use Rattle.book.specs.Layout.{Fields, fields, setup_of, records, seats}
-use Rattle.book.specs.Sound.{pair_ok, column_ok, row_ok, seat_near, seat_ok, mail_ok, slot_ok, record_ok, record_sound, sound_by, sound}
+use Rattle.book.specs.Sound.{pair_ok, column_ok, row_ok, seat_near, seat_ok, mail_ok, slot_ok, record_ok, record_sound}
+use Rattle.book.specs.Sound.{sound_by, sound}
 
 -- two lags that are one on the ring
 abbrev pub OneOnRing : Lag → Lag → Type 0

@@ -21,7 +21,8 @@ use Rattle.rules.specs.Model.{phases}
 use Rattle.book.specs.Fits.{PairFits, RowFits, MailFits, SlotFits, Fits}
 use Rattle.book.specs.Layout.{tag_a_spot, tag_b_spot, book_size, records, shelf_from, mail_from}
 use Rattle.book.specs.Layout.{Record, Fields, fields, setup_of, row_at, spot, mark0, mark1, head_byte, marked_byte, Holds}
-use Rattle.book.specs.Sound.{pair_ok, column_ok, row_ok, column_zero, row_zero, seat_limit, seat_rest, seat_near, seat_ok, mail_ok, slot_ok, record_ok}
+use Rattle.book.specs.Sound.{pair_ok, column_ok, row_ok, column_zero, row_zero, seat_limit, seat_rest, seat_near, seat_ok}
+use Rattle.book.specs.Sound.{mail_ok, slot_ok, record_ok}
 use Rattle.book.specs.Sound.{spare_zero, head_ok, record_sound, sound_by, sound}
 use Rattle.book.specs.Codec.{tag_by, tag_to, write_mail, write_slot, record_of, write}
 use Rattle.rules.proofs.Setups.{Permitted, permitted, permits_limits, limit_ok_lem}

@@ -15,7 +15,8 @@ use Rattle.tools.specs.Lists.{listed}
 use Rattle.tools.specs.Reasons.{if_done}
 use Rattle.rules.specs.Model.{show, write, Value, Answer, refusal}
 use Rattle.rules.specs.Setups.{Setup}
-use Rattle.rules.specs.Numbers.{BadBook, number}
+use Rattle.rules.specs.declared.Refusal.TheVariants.{BadBook}
+use Rattle.rules.specs.Numbers.{number}
 use Rattle.rules.specs.Calls.{Call, start, on, Turn, ring_of, call}
 use Rattle.rules.specs.Labels.{before_off, compare_off}
 use Rattle.rules.specs.Replies.{row_bytes}

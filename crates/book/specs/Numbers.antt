@@ -5,7 +5,8 @@
 --   number_of s c  the same on any bytes: BadBook first
 use Rattle.std.specs.Prelude.{ℕ, List}
 use Rattle.tools.specs.Tests.{pick}
-use Rattle.rules.specs.Numbers.{BadBook, number}
+use Rattle.rules.specs.declared.Refusal.TheVariants.{BadBook}
+use Rattle.rules.specs.Numbers.{number}
 use Rattle.rules.specs.Model.{Tables, Act, why}
 use Rattle.rules.specs.Calls.{ring_of}
 use Rattle.book.specs.Layout.{fields, setup_of}

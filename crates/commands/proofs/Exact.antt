@@ -4,8 +4,6 @@
 --   written   what has a line, its numbers of at most three digits, is read as itself where it is written out
 --   bad_count a start whose limits are miscounted, written out, is read as no call
 --   reads     a line that is read as asking for something is that written out
---   start_fits     where a line asks for a start, it has room for as many limits, and these are at most 8
---   picture_fits   where a line asks for a picture, it has room for as many slots, and these are at most 14
 use Prim.Native.Nat.{ℕ, zero, suc, ◌+◌, ◌*◌, ◌-◌, ◌/◌, ◌%◌, ◌<◌, ◌≤◌}
 use mathlib.Core.Path.{◌≡◌, refl, sym, ap, subst, ◌∙◌}
 use mathlib.Core.Bool.{Bool, true, false}
@@ -30,11 +28,9 @@ use Rattle.text.proofs.Numerals.{Digits, digits}
 use Rattle.rules.specs.Setups.{Setup}
 use Rattle.rules.specs.Model.{ask_before, ask_compare, ask_picture, ask_show, ask_write, Act, local, send, receive, reset, drop, discard, ask}
 use Rattle.rules.specs.Calls.{start, on}
-use Rattle.rules.specs.declared.SetupNumbers.{SetupNumbers}
-use Rattle.commands.specs.declared.Command.TheVariants.{Start, Picture}
 use Rattle.commands.specs.Lines.{shaped, count_after, Wanted, makes, asks_may, Verb, wish, setup_from, miscounted, start_of, verbs}
-use Rattle.commands.specs.Lines.{asks, choose, parse_of, limits_at, slots_at, wanted_by}
-use Rattle.commands.specs.Written.{fields, word_of, wish_number, numbers_of, text_of, Spoken, Small}
+use Rattle.commands.specs.Lines.{asks, choose, parse_of}
+use Rattle.commands.specs.Written.{fields, wish_number, numbers_of, text_of, Spoken, Small}
 use Rattle.commands.proofs.Shapes.{sized, number_there, sift, long_bad}
 use Rattle.commands.proofs.Starts.{setup_back, setup_whole}
 
@@ -298,26 +294,3 @@ reads l a e = go (leb (length l) 64) e
     go : (t : Bool) → pick t (choose verbs l) none ≡ some a → Written l a
     go true q = choose_reads verbs all_fair l a q
     go false q = absurd (none_some q)
-
--- a line that is read is at most 64 bytes long, its verb and four bytes for each number
-module _ (l : List ℕ) (a : Wanted) (e : some a ≡ parse_of l) where
-  short : length l ≤ 64
-  short =
-      ⊎_elim (λ (h : 64 < length l). absurd (none_some (sym (long_bad l h) ∙ sym e))) (λ (h : length l ≤ 64). h) (lt_or_le 64 (length l))
-
-  as_long : length l ≡ length (word_of a) + 4 * length (numbers_of a)
-  as_long = ap length (reads l a (sym e)).0 ∙ simp length-append (omega (arith, fields_length (numbers_of a)))
-
-pub start_fits : (l : List ℕ) (s : SetupNumbers) (n : ℕ) → wanted_by l (Start s n) ≡ parse_of l → (n ≤ 8) × (limits_at + 4 * n ≤ length l)
-start_fits l s n e =
-    let k = length_tab 0 n (λ i. number_at l (limits_at + 4 * i)) in
-    let h = short l _ e in
-    let a = simp length-append at (as_long l _ e) in
-    (omega arith, omega arith)
-
-pub picture_fits : (l : List ℕ) (n : ℕ) → wanted_by l (Picture n) ≡ parse_of l → (n ≤ 14) × (slots_at + 4 * n ≤ length l)
-picture_fits l n e =
-    let k = length_tab 0 n (λ i. number_at l (slots_at + 4 * i)) in
-    let h = short l _ e in
-    let a = as_long l _ e in
-    (omega arith, omega arith)

@@ -2,38 +2,43 @@
 -- Assumes nothing.
 --   sized         a line that has a verb's shape is as long as the verb and its numbers
 --   number_there  each of its numbers is one
---   fits          it is as long as is asked, where the verb and its numbers are
 --   asks_only     of a verb that takes one number of numbers only, the line's shape tells
 --   Past vs n l   the first n verbs do not decide: the others do
---   chosen        the first verb decides where the line has its shape; its numbers end the line
+--   chosen        the first verb decides where the line has its shape
 --   passed        the others decide where it has not
 --   chosen_any, passed_any   the same of a verb that takes any number of numbers, or any from some number on
 --   wished_call   an event's command by its last number asks for the call that this number wishes for
---   may_asked     a may of the desk d asks for what its line does, where that is may and its number d
+--   unlike        a line of one verb's shape has not another's, whose word begins otherwise
+--   nothing_left  a line that is none of picture asks for nothing that is left behind start
+--   no_picture    a line of start is none of picture
+--   one_more      the first numbers of a list, and the next
 --   sift          of all verbs, those decide whose word opens the line
 --   long_bad      a line over 64 bytes asks for nothing
 --   kept_enough   the bytes of a line that are kept tell as much as the whole
-use Prim.Native.Nat.{ℕ, ◌+◌, ◌*◌, ◌-◌, ◌<◌, ◌≤◌}
+use Prim.Native.Nat.{ℕ, ◌+◌, ◌*◌, ◌<◌, ◌≤◌}
 use mathlib.Core.Path.{◌≡◌, refl, sym, ap, ◌∙◌}
-use mathlib.Core.Bool.{Bool, true, false, ◌&&◌}
-use mathlib.Core.List.{List, [], ◌∷◌}
-use mathlib.Core.Option.{Option, none, some}
+use mathlib.Core.Bool.{Bool, true, false}
+use mathlib.Core.List.{List, [], ◌∷◌, ◌++◌}
+use mathlib.Core.Option.{none, some}
 use mathlib.Core.Logic.{⊎_elim}
 use native.Mathlib.Omega.{arith}
-use borrow.Author.Tests.{eqb-true, eqb-false, le-leb, lt-leb}
+use borrow.Author.Tests.{eqb-true, eqb-false, ne_eqb, le-leb, lt-leb}
 use lib.Dec.{eqb, ltb}
-use lib.ListN.{length, take, drop}
-use lib.Seq.{take_all, length-take-le}
+use lib.ListN.{length, take, drop, length-append, get_or-append}
+use lib.Seq.{take_all, length-take-le, get_or-append_seam}
+use Rattle.std.specs.Prelude as Std
+use Rattle.std.specs.Prelude.{Some, None, option_map}
 use Rattle.tools.specs.Tests.{pick}
-use Rattle.tools.proofs.Tests.{each, not_each, all_at, and_false, lt_or_le, pick_ap}
-use Rattle.text.specs.Words.{opens}
-use Rattle.text.specs.Digits.{is_number, numbers_at}
+use Rattle.tools.specs.Lists.{byte, tab}
+use Rattle.tools.proofs.Tests.{each, not_each, all_at, all_not, and_true, and_false, lt_or_le}
+use Rattle.tools.proofs.Lists.{length_tab, tab_at, is_tab}
+use Rattle.text.specs.Words.{ascii, opens}
+use Rattle.text.specs.Digits.{is_number, number_at, numbers_at}
 use Rattle.text.specs.Stream.{most}
 use Rattle.rules.specs.Model.{Act}
 use Rattle.rules.specs.Calls.{on}
 use Rattle.commands.specs.declared.Command.{Command}
-use Rattle.commands.specs.declared.Command.TheVariants.{May, Bad}
-use Rattle.commands.specs.Lines.{shaped, count_after, Wanted, makes, asks_may, Verb, wish, verbs, asks, choose, parse_of, wanted_by}
+use Rattle.commands.specs.Lines.{shaped, count_after, makes, Verb, wish, lists, verbs, asks, choose, parse_of, wanted_by, wanted_in}
 
 pub sized : (l w : List ℕ) (n : ℕ) → shaped l w n ≡ true → length l ≡ length w + 4 * n
 unfolding shaped
@@ -42,9 +47,6 @@ sized l w n h = eqb-true _ _ (each _ h 0)
 pub number_there : (l w : List ℕ) (n : ℕ) → shaped l w n ≡ true → (i : ℕ) → i < n → is_number l (length w + 4 * i) ≡ true
 unfolding shaped
 number_there l w n h i q = all_at _ n i q (each _ h 2)
-
-pub fits : (l w : List ℕ) (n m : ℕ) {t : Bool} → t ≡ shaped l w n → t ≡ true → m ≤ length w + 4 * n → m ≤ length l
-fits l w n m e h q = omega (arith, sized l w n (sym e ∙ h))
 
 pub asks_only : (l : List ℕ) (v : Verb) (n : ℕ) → v.takes ≡ eqb n → asks l v ≡ shaped l v.word n
 unfolding asks
@@ -61,44 +63,81 @@ asks_only l v n k = go (eqb n (count_after l v.word)) refl
 abbrev pub Past : List Verb → ℕ → List ℕ → Type 0
 Past vs n l = choose vs l ≡ choose (drop n vs) l
 
--- the first of some verbs, and a test that says whether the line is its word and n numbers
-module _ (v : Verb) (vs : List Verb) (l : List ℕ) (n : ℕ) {t : Bool} (e : t ≡ shaped l v.word n) (k : v.takes ≡ eqb n) where
-  pub chosen : t ≡ true → choose (v ∷ vs) l ≡ v.made (numbers_at l (length l - 4 * n) n)
+-- the first of some verbs, which takes n numbers only
+module _ (v : Verb) (vs : List Verb) (l : List ℕ) (n : ℕ) (k : v.takes ≡ eqb n) where
+  pub chosen : (ns : List ℕ) → (shaped l v.word n ≡ true) × (ns ≡ numbers_at l (length v.word) n) → v.made ns ≡ choose (v ∷ vs) l
   unfolding choose
-  chosen h =
-      let s = sized l v.word n (sym e ∙ h) in
+  chosen ns h =
+      let s = sized l v.word n h.0 in
       let c : count_after l v.word ≡ n = omega arith in
-      let at : length l - 4 * n ≡ length v.word = omega arith in
-      rw (choose, asks_only l v n k ∙ sym e ∙ h, c, at)
+      rw (choose, asks_only l v n k ∙ h.0, c, h.1)
 
-  pub passed : t ≡ false → choose (v ∷ vs) l ≡ choose vs l
+  pub passed : shaped l v.word n ≡ false → choose (v ∷ vs) l ≡ choose vs l
   unfolding choose
-  passed h = rw (choose, asks_only l v n k ∙ sym e ∙ h)
+  passed h = rw (choose, asks_only l v n k ∙ h)
 
--- the same where the line has n numbers, as many as there are, and the test says too whether the verb takes so many
-module _ (v : Verb) (vs : List Verb) (l : List ℕ) (n : ℕ) {t : Bool} (k : n ≡ count_after l v.word)
-    (e : t ≡ (v.takes n && shaped l v.word n)) where
-  asked : t ≡ asks l v
-  unfolding asks
-  asked = rw (asks, ← k) e
+-- the same of a verb that takes as many as there are, or any from some number on
+module _ (v : Verb) (vs : List Verb) (l : List ℕ) where
+  pub chosen_any : (ns : List ℕ)
+      → (shaped l v.word (count_after l v.word) ≡ true) × (ns ≡ numbers_at l (length v.word) (count_after l v.word))
+      → choose (v ∷ vs) l ≡ pick (v.takes (length ns)) (v.made ns) (choose vs l)
+  unfolding choose asks
+  chosen_any ns h =
+      let n = count_after l v.word in
+      let k : length ns ≡ n = ap length h.1 ∙ length_tab 0 n (λ i. number_at l (length v.word + 4 * i)) in
+      rw (choose, asks, h.0, and_true (v.takes n), k, h.1)
 
-  pub chosen_any : t ≡ true → choose (v ∷ vs) l ≡ v.made (numbers_at l (length v.word) n)
-  unfolding choose
-  chosen_any h = rw (choose, sym asked ∙ h, ← k)
+  pub passed_any : shaped l v.word (count_after l v.word) ≡ false → choose (v ∷ vs) l ≡ choose vs l
+  unfolding choose asks
+  passed_any h = rw (choose, asks, h, and_false (v.takes (count_after l v.word)))
 
-  pub passed_any : t ≡ false → choose (v ∷ vs) l ≡ choose vs l
-  unfolding choose
-  passed_any h = rw (choose, sym asked ∙ h)
+-- what a last number asks for, where it makes a command or none
+pub wished_call
+    : (keep : ℕ) (o : Std.Option Bool) (m : Bool → Command) (c : Bool → Act)
+    → ((q : Bool) → wanted_by (m q) ≡ makes (on (c q)))
+    → o ≡ pick (ltb 1 keep) None (Some (eqb keep 1))
+    → wanted_in (option_map m o) ≡ wish keep c
+wished_call keep o m c same e = go (ltb 1 keep) (eqb keep 1) e
+  where
+    go : (t q : Bool) → o ≡ pick t None (Some q) → wanted_in (option_map m o) ≡ pick t none (some (makes (on (c q))))
+    go true q h = ap (λ (p : Std.Option Bool). wanted_in (option_map m p)) h
+    go false q h = ap (λ (p : Std.Option Bool). wanted_in (option_map m p)) h ∙ ap some (same q)
 
--- a command m of a yes or no, and r what its last number makes of it
-pub wished_call : (l : List ℕ) (q : ℕ) (c : Bool → Act) (m r : Command)
-    → r ≡ pick (ltb 1 q) Bad m
-    → wanted_by l m ≡ some (makes (on (c (eqb q 1))))
-    → wanted_by l r ≡ wish q c
-wished_call l q c m r e h = ap (wanted_by l) e ∙ pick_ap (wanted_by l) (ltb 1 q) Bad m ∙ ap (pick (ltb 1 q) none) h
+-- a line that is the one word and numbers is not the other
+pub unlike
+    : (l w u : List ℕ) (n m : ℕ)
+    → 0 < length w
+    → 0 < length u
+    → (byte w 0 ≡ byte u 0 → ⊥)
+    → shaped l w n ≡ true
+    → shaped l u m ≡ false
+unfolding shaped opens
+unlike l w u n m a b d h =
+    let first = eqb-true (byte l 0) (byte w 0) (all_at _ (length w) 0 a (each _ h 1)) in
+    not_each _ 1 (all_not _ (length u) 0 b (ne_eqb (byte l 0) (byte u 0) (λ e. d (sym first ∙ e))))
 
-pub may_asked : (l : List ℕ) (d n : ℕ) (o : Option Wanted) → d ≡ n → o ≡ some (asks_may n) → wanted_by l (May d) ≡ o
-may_asked l d n o e h = ap (λ (k : ℕ). some (asks_may k)) e ∙ sym h
+pub nothing_left : (l : List ℕ) → (let w = ascii "picture" in shaped l w (count_after l w) ≡ false) → choose (drop 1 lists) l ≡ none
+unfolding choose
+nothing_left l h = passed_any _ [] l h
+
+pub no_picture : (l : List ℕ) (n : ℕ) → shaped l (ascii "start") n ≡ true → choose (drop 1 lists) l ≡ none
+no_picture l n h =
+    let w = ascii "picture" in
+    nothing_left l (unlike l (ascii "start") w n (count_after l w) (omega arith) (omega arith) (λ e. eqb-false 115 112 refl e) h)
+
+-- a list of the first n numbers, and the next
+pub one_more : (f : ℕ → ℕ) (n : ℕ) (l : List ℕ) (x : ℕ) → l ≡ tab 0 n f → x ≡ f n → l ++ (x ∷ []) ≡ tab 0 (n + 1) f
+one_more f n l x e h =
+    let k : length l ≡ n = ap length e ∙ length_tab 0 n f in
+    is_tab (n + 1) f (l ++ (x ∷ [])) (simp length-append (omega arith))
+    (λ i q.
+    ⊎_elim
+    (λ (s : i < n). get_or-append l (x ∷ []) 0 i (omega arith) ∙ ap (λ (m : List ℕ). byte m i) e ∙ tab_at n f i s)
+    (λ (s : n ≤ i).
+    let j : i ≡ length l = omega arith in
+    let j' : n ≡ i = omega arith in
+    ap (λ (m : ℕ). byte (l ++ (x ∷ [])) m) j ∙ get_or-append_seam l x [] 0 ∙ h ∙ ap f j')
+    (lt_or_le i n))
 
 -- the verbs whose word opens a line
 abbrev pub opening : List ℕ → List Verb → List Verb
@@ -129,5 +168,6 @@ long_bad l h = rw (parse_of, lt-leb (length l) 64 h)
 pub kept_enough : (l : List ℕ) → parse_of (take most l) ≡ parse_of l
 kept_enough l =
     ⊎_elim
-    (λ (h : most < length l). long_bad (take most l) (omega (arith, length-take-le most l (omega arith))) ∙ sym (long_bad l (omega arith)))
+    (λ (h : most < length l).
+    long_bad (take most l) (omega (arith, length-take-le most l (omega arith))) ∙ sym (long_bad l (omega arith)))
     (λ (h : length l ≤ most). ap parse_of (take_all most l h)) (lt_or_le most (length l))

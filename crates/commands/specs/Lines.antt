@@ -19,10 +19,10 @@
 --   asks l v          the line asks for the verb v: it is its word, and as many numbers as it takes
 --   choose vs l       what the first verb that the line asks for makes of its numbers; none where it asks for none
 --   parse_of l        what a line asks for; none for a line over 64 bytes or of any other shape, a BadLine
---   limits_at         where the limits of a start begin in its line
---   slots_at          where the slots of a picture begin in its line
---   wanted_by l c     what a command asks for, its limits or slots taken from its line l; none for `Bad`
-use Rattle.std.specs.Prelude.{ℕ, ◌+◌, ◌*◌, ◌-◌, ◌/◌, Bool, true, not, ◌&&◌, List, [], ◌∷◌, ◌++◌, eqb, ltb, leb, length, take, drop}
+--   wanted_by c       what a command asks for
+--   wanted_in o       the same, where there is a command
+use Rattle.std.specs.Prelude.{ℕ, ◌+◌, ◌*◌, ◌-◌, ◌/◌, Bool, true, not, ◌&&◌, List, [], ◌∷◌, ◌++◌, eqb, ltb, leb, length, take, drop, Some, None}
+use Rattle.std.specs.Prelude as Std
 use Rattle.std.proofs.Math.Option.{Option, none, some}
 use Rattle.tools.specs.Tests.{pick, all_of, all_below, within}
 use Rattle.tools.specs.Lists.{byte}
@@ -45,7 +45,6 @@ use Rattle.commands.specs.declared.Command.TheVariants.{
   Compare,
   May,
   Picture,
-  Bad,
 }
 
 unfoldable pub shaped : List ℕ → List ℕ → ℕ → Bool
@@ -132,22 +131,19 @@ choose (v ∷ vs) l =
 unfoldable pub parse_of : List ℕ → Option Wanted
 parse_of l = pick (leb (length l) 64) (choose verbs l) none
 
-abbrev pub limits_at : ℕ
-limits_at = length (ascii "start") + 2 * 4
+abbrev pub wanted_by : Command → Wanted
+wanted_by (Start s l) = makes (start (setup_with s l.items))
+wanted_by (Local d q) = makes (on (Model.local d q))
+wanted_by (Send d k q) = makes (on (Model.send d k q))
+wanted_by (Receive d p q) = makes (on (Model.receive d p q))
+wanted_by (Reset d q) = makes (on (Model.reset d q))
+wanted_by (Drop s) = makes (on (Model.drop s))
+wanted_by (Discard p) = makes (on (Model.discard p))
+wanted_by (Before s t) = makes (on (Model.before s t))
+wanted_by (Compare s t) = makes (on (Model.compare s t))
+wanted_by (May d) = asks_may d
+wanted_by (Picture l) = makes (on (Model.picture l.items))
 
-abbrev pub slots_at : ℕ
-slots_at = length (ascii "picture")
-
-abbrev pub wanted_by : List ℕ → Command → Option Wanted
-wanted_by l (Start s n) = some (makes (start (setup_with s (numbers_at l limits_at n))))
-wanted_by l (Local d q) = some (makes (on (Model.local d q)))
-wanted_by l (Send d k q) = some (makes (on (Model.send d k q)))
-wanted_by l (Receive d p q) = some (makes (on (Model.receive d p q)))
-wanted_by l (Reset d q) = some (makes (on (Model.reset d q)))
-wanted_by l (Drop s) = some (makes (on (Model.drop s)))
-wanted_by l (Discard p) = some (makes (on (Model.discard p)))
-wanted_by l (Before s t) = some (makes (on (Model.before s t)))
-wanted_by l (Compare s t) = some (makes (on (Model.compare s t)))
-wanted_by l (May d) = some (asks_may d)
-wanted_by l (Picture n) = some (makes (on (Model.picture (numbers_at l slots_at n))))
-wanted_by l Bad = none
+abbrev pub wanted_in : Std.Option Command → Option Wanted
+wanted_in None = none
+wanted_in (Some c) = some (wanted_by c)

@@ -2,21 +2,23 @@
 
 #![tactic(auto)]
 
-ghost use Rattle.std.specs.Prelude.{◌≡◌, ◌+◌, ◌*◌, ◌-◌, ◌≤◌, ◌<◌, ◌++◌, ltb, length, take};
-ghost use Rattle.tools.specs.Tests.{pick};
-ghost use Rattle.text.specs.Digits.{number_at, numbers_at};
-ghost use Rattle.rules.specs.Setups.{setup_with};
-ghost use Rattle.commands.specs.Lines.{shaped, count_after, events, filings, questions, lists, setup_from, start_of};
-ghost use Rattle.commands.specs.Lines.{choose, parse_of, limits_at, slots_at, wanted_by};
-ghost use Rattle.commands.specs.declared.Command.TheVariants as Commands;
+ghost use Rattle.std.specs.Prelude.{◌≡◌, ◌≤◌, ◌++◌, true, false, Some, None, MatchOption, ◌&&◌, not, ltb, leb, eqb, length};
+ghost use Rattle.std.proofs.Math.Option.{none};
+ghost use Rattle.tools.specs.Tests.{pick, within};
+ghost use Rattle.text.specs.Digits.{numbers_at};
+ghost use Rattle.commands.specs.Lines.{shaped, count_after, events, filings, questions, lists, start_of};
+ghost use Rattle.commands.specs.Lines.{choose, parse_of, wanted_in};
 
+use arrayvec::ArrayVec;
 use rules::SetupNumbers;
 
-// What a line asks for, an event last with whether its stamp is kept; of start its six numbers and how many limits there are, of picture
-// how many slots, which stay in the line. The numbers are wide, so that 256 reaches the check that refuses it.
-#[derive(Clone, Copy)]
+// The limits of a start, the slots of a picture: no more than 14 numbers stand in 64 bytes.
+pub type Numbers = ArrayVec<usize, 14>;
+
+// What a line asks for, an event last with whether its stamp is kept. The numbers are wide, so that 256 reaches the check that refuses it.
+#[derive(Drop)]
 pub enum Command {
-    Start(SetupNumbers, usize),
+    Start(SetupNumbers, Numbers),
     Local(usize, bool),
     Send(usize, usize, bool),
     Receive(usize, usize, bool),
@@ -26,8 +28,7 @@ pub enum Command {
     Before(usize, usize),
     Compare(usize, usize),
     May(usize),
-    Picture(usize),
-    Bad,
+    Picture(Numbers),
 }
 
 // Whether a line is a word and then so many numbers.
@@ -35,184 +36,166 @@ fn is_line(line: &[u8], word: &[u8], count: usize) -> bool
     requires { count ≤ 14 }
     ensures { result ≡ shaped line.now word.now count }
 {
-    if line.len() != word.len() + 4 * count {
-        return false;
-    }
-    if !text::starts_with(line, word) {
+    if line.len() != word.len() + 4 * count || !text::starts_with(line, word) {
         return false;
     }
     text::are_numbers(line, word.len(), count)
 }
 
-// How many numbers a line has after a word, by its length: four bytes for each.
-fn count_after(line: &[u8], word: &[u8]) -> usize
-    ensures { result ≡ count_after line.now word.now }
+// The numbers of a line that is a word and then just so many of them.
+fn numbers<const N: usize>(line: &[u8], word: &[u8]) -> Option<[usize; N]>
+    requires { N ≤ 14 }
+    ensures { MatchOption result (shaped line.now word.now N ≡ false)
+        (λ ns. (shaped line.now word.now N ≡ true) × (ns ≡ numbers_at line.now (length word.now) N)) }
 {
-    if line.len() < word.len() {
-        return 0;
+    if !is_line(line, word, N) {
+        return None;
     }
-    (line.len() - word.len()) / 4
-}
-
-// The nth number, counted from 0, of so many that end a line.
-fn number(line: &[u8], nth: usize, count: usize) -> usize
-    requires { (nth < count) × (4 * count ≤ length line.now) }
-    ensures { result ≡ number_at line.now (length line.now - 4 * count + 4 * nth) }
-{
-    text::number(line, line.len() - 4 * count + 4 * nth)
-}
-
-// So many numbers of a line, one after the other from a place on; the others are 0. No more than 14 stand in 64 bytes.
-fn list_of(line: &[u8], at: usize, count: usize) -> [usize; 14]
-    requires { (count ≤ 14) × (at + 4 * count ≤ length line.now) }
-    ensures { (length result ≡ 14) × (take count result ≡ numbers_at line.now at count) }
-{
-    let mut list = [0usize; 14];
-    let mut i: usize = 0;
-    while i < count {
-        list[i] = text::number(line, at + 4 * i);
-        i += 1;
+    let mut list = [0; N];
+    for i in 0..N {
+        list[i] = text::number(line, word.len() + 4 * i);
     }
-    list
+    Some(list)
 }
 
-// The limits of a start that has so many: they stand after the verb, D and P.
-pub fn limits_of(line: &[u8], count: usize) -> [usize; 14]
-    requires { (count ≤ 14) × (limits_at + 4 * count ≤ length line.now) }
-    ensures { (length result ≡ 14) × (take count result ≡ numbers_at line.now limits_at count) }
+// The numbers of a line that is a word and then numbers, however many: no more than 14, as the word has five letters.
+fn all_numbers(line: &[u8], word: &[u8]) -> Option<Numbers>
+    requires { (length line.now ≤ 64) × (5 ≤ length word.now) }
+    ensures { MatchOption result (shaped line.now word.now (count_after line.now word.now) ≡ false)
+        (λ ns. (shaped line.now word.now (count_after line.now word.now) ≡ true)
+        × (ns.items ≡ numbers_at line.now (length word.now) (count_after line.now word.now))) }
 {
-    list_of(line, 13, count)
-}
-
-// The slots of a picture that has so many: they stand after the verb.
-pub fn slots_of(line: &[u8], count: usize) -> [usize; 14]
-    requires { (count ≤ 14) × (slots_at + 4 * count ≤ length line.now) }
-    ensures { (length result ≡ 14) × (take count result ≡ numbers_at line.now slots_at count) }
-{
-    list_of(line, 7, count)
-}
-
-// The six numbers of a start whose line is five bytes of the verb and so many numbers: D and P are the first two, M, A, m and n the
-// last four.
-fn numbers_of(line: &[u8], count: usize) -> SetupNumbers
-    requires { (6 ≤ count) × (length line.now ≡ 5 + 4 * count) }
-    ensures { setup_with result (numbers_at line.now limits_at (count - 6)) ≡ setup_from (numbers_at line.now 5 count) }
-{
-    SetupNumbers {
-        desks: number(line, 0, count),
-        phases: number(line, 1, count),
-        seat_lag: number(line, 0, 4),
-        shelf_lag: number(line, 1, 4),
-        back: number(line, 2, 4),
-        ahead: number(line, 3, 4),
+    let count = line.len().saturating_sub(word.len()) / 4;
+    if !is_line(line, word, count) {
+        return None;
     }
+    let mut list = Numbers::new();
+    for i in 0..count {
+        list.push(text::number(line, word.len() + 4 * i));
+    }
+    Some(list)
 }
 
-// The start of such a line; a BadLine where D is from 2 to 8 and there are other than D limits.
-fn start_of(line: &[u8], count: usize) -> Command
-    requires { (6 ≤ count) × (length line.now ≡ 5 + 4 * count) }
-    ensures { wanted_by line.now result ≡ start_of (numbers_at line.now 5 count) }
+// Whether D is from 2 to 8 and there are other than D limits.
+fn is_miscounted(desks: usize, limits: usize) -> bool
+    ensures { result ≡ (within 2 8 desks && not (eqb limits desks)) }
 {
-    let s = numbers_of(line, count);
-    let limits = count - 6;
-    if tools::within(2, 8, s.desks) & (limits != s.desks) {
-        return Command::Bad;
+    (2..=8).contains(&desks) & (limits != desks)
+}
+
+// The start of a line's numbers: D and P are the first two, M, A, m and n the last four, the limits stand between them. None where
+// there are fewer than six, or where the limits are miscounted.
+fn start_of(given: &[usize]) -> Option<Command>
+    requires { length given.now ≤ 14 }
+    ensures { wanted_in result ≡ pick (leb 6 (length given.now)) (start_of given.now) none }
+{
+    let [desks, phases, limits @ .., seat_lag, shelf_lag, back, ahead] = given else {
+        return None;
+    };
+    if is_miscounted(*desks, limits.len()) {
+        return None;
     }
-    Command::Start(s, limits)
+    let numbers = SetupNumbers {
+        desks: *desks,
+        phases: *phases,
+        seat_lag: *seat_lag,
+        shelf_lag: *shelf_lag,
+        back: *back,
+        ahead: *ahead,
+    };
+    Some(Command::Start(numbers, Numbers::try_from(limits).unwrap()))
 }
 
 // A row of the definition's table is one test here, in the table's order; a line that a group does not know is left to the next. The
 // verbs that take any number of numbers come last.
-fn parse_lists(line: &[u8]) -> Command
+fn parse_lists(line: &[u8]) -> Option<Command>
     requires { length line.now ≤ 64 }
-    ensures { wanted_by line.now result ≡ choose lists line.now }
+    ensures { wanted_in result ≡ choose lists line.now }
 {
-    let count = count_after(line, b"start");
-    if (6 <= count) & is_line(line, b"start", count) {
-        return start_of(line, count);
+    if let Some(numbers) = all_numbers(line, b"start") {
+        return start_of(numbers.as_slice());
     }
-    let slots = count_after(line, b"picture");
-    if is_line(line, b"picture", slots) {
-        return Command::Picture(slots);
-    }
-    Command::Bad
+    Some(Command::Picture(all_numbers(line, b"picture")?))
 }
 
 // The questions about two slots and may, then the lists.
-fn parse_questions(line: &[u8]) -> Command
+fn parse_questions(line: &[u8]) -> Option<Command>
     requires { length line.now ≤ 64 }
-    ensures { wanted_by line.now result ≡ choose (questions ++ lists) line.now }
+    ensures { wanted_in result ≡ choose (questions ++ lists) line.now }
 {
-    if is_line(line, b"before", 2) {
-        return Command::Before(number(line, 0, 2), number(line, 1, 2));
+    if let Some(numbers) = numbers::<2>(line, b"before") {
+        let [first, second] = numbers;
+        return Some(Command::Before(first, second));
     }
-    if is_line(line, b"compare", 2) {
-        return Command::Compare(number(line, 0, 2), number(line, 1, 2));
+    if let Some(numbers) = numbers::<2>(line, b"compare") {
+        let [first, second] = numbers;
+        return Some(Command::Compare(first, second));
     }
-    if is_line(line, b"may", 1) {
-        return Command::May(number(line, 0, 1));
+    if let Some(numbers) = numbers::<1>(line, b"may") {
+        let [desk] = numbers;
+        return Some(Command::May(desk));
     }
     parse_lists(line)
 }
 
 // The filings, then the questions.
-fn parse_filings(line: &[u8]) -> Command
+fn parse_filings(line: &[u8]) -> Option<Command>
     requires { length line.now ≤ 64 }
-    ensures { wanted_by line.now result ≡ choose (filings ++ questions ++ lists) line.now }
+    ensures { wanted_in result ≡ choose (filings ++ questions ++ lists) line.now }
 {
-    if is_line(line, b"drop", 1) {
-        Command::Drop(number(line, 0, 1))
-    } else if is_line(line, b"discard", 1) {
-        Command::Discard(number(line, 0, 1))
-    } else {
-        parse_questions(line)
+    if let Some(numbers) = numbers::<1>(line, b"drop") {
+        let [slot] = numbers;
+        return Some(Command::Drop(slot));
     }
+    if let Some(numbers) = numbers::<1>(line, b"discard") {
+        let [place] = numbers;
+        return Some(Command::Discard(place));
+    }
+    parse_questions(line)
 }
 
-// The command of an event's line by its last number, 1 for yes and 0 for no: any other makes a BadLine.
-fn wished(keep: usize, c: Command) -> Command
-    ensures { result ≡ pick (ltb 1 keep) Commands.Bad c }
+// Whether an event's stamp is kept, by the last number of its line: 1 is yes, 0 no; any other makes no command.
+fn wished(keep: usize) -> Option<bool>
+    ensures { result ≡ pick (ltb 1 keep) None (Some (eqb keep 1)) }
 {
-    if 1 < keep {
-        return Command::Bad;
+    match keep {
+        0 => Some(false),
+        1 => Some(true),
+        _ => None,
     }
-    c
 }
 
 // The four events, then the filings.
-fn parse_events(line: &[u8]) -> Command
+fn parse_events(line: &[u8]) -> Option<Command>
     requires { length line.now ≤ 64 }
-    ensures { wanted_by line.now result ≡ choose (events ++ filings ++ questions ++ lists) line.now }
+    ensures { wanted_in result ≡ choose (events ++ filings ++ questions ++ lists) line.now }
 {
-    if is_line(line, b"local", 2) {
-        let keep = number(line, 1, 2);
-        wished(keep, Command::Local(number(line, 0, 2), keep == 1))
-    } else if is_line(line, b"send", 3) {
-        let keep = number(line, 2, 3);
-        wished(
-            keep,
-            Command::Send(number(line, 0, 3), number(line, 1, 3), keep == 1),
-        )
-    } else if is_line(line, b"receive", 3) {
-        let keep = number(line, 2, 3);
-        wished(
-            keep,
-            Command::Receive(number(line, 0, 3), number(line, 1, 3), keep == 1),
-        )
-    } else if is_line(line, b"reset", 2) {
-        let keep = number(line, 1, 2);
-        wished(keep, Command::Reset(number(line, 0, 2), keep == 1))
-    } else {
-        parse_filings(line)
+    if let Some(numbers) = numbers::<2>(line, b"local") {
+        let [desk, keep] = numbers;
+        return Some(Command::Local(desk, wished(keep)?));
     }
+    if let Some(numbers) = numbers::<3>(line, b"send") {
+        let [desk, to, keep] = numbers;
+        return Some(Command::Send(desk, to, wished(keep)?));
+    }
+    if let Some(numbers) = numbers::<3>(line, b"receive") {
+        let [desk, place, keep] = numbers;
+        return Some(Command::Receive(desk, place, wished(keep)?));
+    }
+    if let Some(numbers) = numbers::<2>(line, b"reset") {
+        let [desk, keep] = numbers;
+        return Some(Command::Reset(desk, wished(keep)?));
+    }
+    parse_filings(line)
 }
 
-// The command of a line: a line over 64 bytes, or of any other shape, is a BadLine.
-pub fn parse(line: &[u8]) -> Command
-    ensures { wanted_by line.now result ≡ parse_of line.now }
+// The command of a line; none of a BadLine: one over 64 bytes, or of any other shape.
+#[tactic(auto, using(crate::proofs::Shapes::long_bad))]
+pub fn parse(line: &[u8]) -> Option<Command>
+    ensures { wanted_in result ≡ parse_of line.now }
 {
     if text::LINE_MOST < line.len() {
-        return Command::Bad;
+        return None;
     }
     parse_events(line)
 }

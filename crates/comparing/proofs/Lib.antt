@@ -1,3 +1,2 @@
--- The laws of a comparison's ways and answers.
-pub mod Ways
+-- The laws of a comparison's answers.
 pub mod Answers

@@ -6,7 +6,8 @@ use Rattle.std.specs.Prelude.{◌||◌, [], ◌∷◌, ℕ}
 use Rattle.std.proofs.Math.Option.{Option}
 use Rattle.tools.specs.Reasons.{first}
 use Rattle.ring.specs.Phases.{Gap}
-use Rattle.rules.specs.Numbers.{OutOfReach, given}
+use Rattle.rules.specs.declared.Refusal.TheVariants.{OutOfReach}
+use Rattle.rules.specs.Numbers.{given}
 use Rattle.rules.specs.Model.{Row, says, relates, Answer, is_out, gap_in, is_before, relation}
 use Rattle.rules.specs.Labels.{settle_off}
 

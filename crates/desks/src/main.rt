@@ -2,16 +2,18 @@
 
 #![tactic(auto)]
 
-ghost use Rattle.std.specs.Prelude.{◌≡◌, ◌≤◌, length, take};
-ghost use Rattle.io.specs.Counts.{clamp_len};
-ghost use Rattle.text.specs.Stream.{most, held, last_book};
+ghost use Rattle.std.specs.Prelude.{◌≡◌, ℕ, ◌≤◌, length, take, Ok, Err};
+ghost use Rattle.std.specs.Io.{ReadsAtMost};
+ghost use Rattle.text.specs.Stream.{most, held, last_text, last_book};
 ghost use Rattle.office.specs.Office.{folder};
 ghost use Rattle.answering.specs.Answering.{answering};
-ghost use Rattle.listing.specs.Feeding.{Feeds};
-ghost use Rattle.ends.specs.declared.Went.TheVariants.{On, Ended};
-ghost use Rattle.ends.specs.Ends.{read_went, Told, Goes, end_book};
+ghost use Rattle.listing.specs.Feeding.{fed_text, Feeds};
+ghost use Rattle.ends.specs.declared.Stop.TheVariants.{Ended};
+ghost use Rattle.ends.specs.Ends.{read_went, outcome, moved, Writes, Goes, end_book};
 
-use ends::Went;
+use arrayvec::ArrayVec;
+use ends::Stop;
+use std::io;
 use std::io::{Error, Read, Write};
 use std::process::ExitCode;
 use text::Pending;
@@ -20,211 +22,151 @@ use text::Pending;
 // number of turns that no run uses up.
 const TURNS: u64 = u64::MAX;
 
+// How many bytes a read asks for, and a page has room for.
+const SPACE: usize = 4096;
+
+// What lines print, until it is written out.
+type Page = ArrayVec<u8, SPACE>;
+
 // The status of a program that SIGPIPE (13) has ended, as a shell tells it. The runtime ignores that signal, so a write fails instead.
 const READER_GONE: u8 = 141;
 
-// How many bytes of a text are not written, what became of the run, and the system's reason where an end failed.
-#[derive(Clone, Copy)]
-struct Put {
-    left: usize,
-    went: Went,
-    error: i32,
-}
-
-// What a piece leaves: the line that has begun, how many bytes of the piece are taken in, how many bytes of what they print are not
-// written, what became of the run, and the system's reason where an end failed.
-#[derive(Clone, Copy)]
-struct Turn {
-    pending: Pending,
-    used: usize,
-    left: usize,
-    went: Went,
-    error: i32,
-}
-
 // A text is written, and waited for as long as it takes.
-fn write_out(output: &mut impl Write, out: &[u8]) -> Put
-    ensures { Told result.went result.left }
+fn write_out<W: Write>(output: &mut W, out: &[u8]) -> Result<(), Stop>
+    ensures { Writes (W.contents output.old) (W.contents output.new) out.now result }
 {
-    let mut done: usize = 0;
-    let mut error = 0;
+    let mut done = 0;
     for _ in 0..TURNS {
         if done >= out.len() {
             break;
         }
-        let call = ends::called(output.write(&out[done..]));
-        let tried = ends::write_went(call.got, call.error);
-        error = call.error;
-        let Went::On = tried else {
-            return Put {
-                left: out.len() - done,
-                went: tried,
-                error,
-            };
-        };
-        done += io::count(call.got, &out[done..]);
+        done += ends::write_went(output.write(&out[done..]))?;
     }
     if done < out.len() {
-        return Put {
-            left: out.len() - done,
-            went: Went::Unwritten,
-            error,
-        };
+        return Err(Stop::Unwritten(None));
     }
-    Put {
-        left: 0,
-        went: Went::On,
-        error: 0,
-    }
+    Ok(())
 }
 
-// A piece is taken in; what it prints is written as often as the buffer is full, until that fails.
-fn answer_piece(
-    output: &mut impl Write,
+// A piece is taken in; what it prints is written as often as the page is full, until that fails.
+fn answer_piece<W: Write>(
+    output: &mut W,
     book: &mut [u8],
     summary: &mut [u8],
-    p: Pending,
+    pending: &mut Pending,
     piece: &[u8],
-) -> Turn
-    requires { p.count ≤ most }
-    ensures feeds { Feeds (held (folder book.old summary.old) p)
-        piece.now result.used (folder book.new summary.new) result.pending }
-    ensures told { Told result.went result.left × (result.went ≡ On → result.used ≡ length piece.now) }
+) -> Result<(), Stop>
+    requires { length pending.old.items ≤ most }
+    ensures { (used : ℕ)
+        × Feeds (held (folder book.old summary.old) pending.old.items) piece.now used (folder book.new summary.new) pending.new.items
+        × Writes (W.contents output.old) (W.contents output.new)
+        (fed_text (held (folder book.old summary.old) pending.old.items) piece.now used) result
+        × (result ≡ Ok tt → used ≡ length piece.now) }
 {
-    let mut out = io::buffer();
-    let mut q = p;
-    let mut at: usize = 0;
+    let mut page = Page::new();
+    let mut at = 0;
+    // A while: a turn takes in as many bytes as there is room for.
     while at < piece.len() {
-        let fed = listing::feed(book, summary, &mut out, q, &piece[at..]);
-        let end = fed.end;
-        let r = fed.pending;
-        at += fed.used;
-        q = r;
-        let put = write_out(output, &out[..end]);
-        let written = put.went;
-        let Went::On = written else {
-            return Turn {
-                pending: q,
-                used: at,
-                left: put.left,
-                went: written,
-                error: put.error,
-            };
-        };
+        at += listing::feed(book, summary, &mut page, pending, &piece[at..]);
+        write_out(output, page.as_slice())?;
     }
-    Turn {
-        pending: q,
-        used: at,
-        left: 0,
-        went: Went::On,
-        error: 0,
-    }
+    Ok(())
 }
 
 // What a read has put into a space is taken in. A line that has begun waits for its end, also where the read failed.
-fn take_turn(
-    output: &mut impl Write,
+fn take_turn<W: Write>(
+    output: &mut W,
     book: &mut [u8],
     summary: &mut [u8],
-    p: Pending,
+    pending: &mut Pending,
     space: &[u8],
-    got: isize,
-    error: i32,
-) -> Turn
-    requires { p.count ≤ most }
-    ensures feeds { Feeds (held (folder book.old summary.old) p)
-        (take (clamp_len got (length space.now)) space.now) result.used
-        (folder book.new summary.new) result.pending }
-    ensures goes { Goes On (read_went got error) result.went result.left }
-    ensures used_value { result.went ≡ On → result.used ≡ clamp_len got (length space.now) }
+    done: io::Result<usize>,
+) -> Result<(), Stop>
+    requires { (length pending.old.items ≤ most) × ReadsAtMost done space.now }
+    ensures { (used : ℕ)
+        × Feeds (held (folder book.old summary.old) pending.old.items)
+        (take (moved (read_went done)) space.now) used (folder book.new summary.new) pending.new.items
+        × Goes (Ok tt) (outcome (read_went done)) result
+        (fed_text (held (folder book.old summary.old) pending.old.items) (take (moved (read_went done)) space.now) used)
+        (W.contents output.old) (W.contents output.new)
+        × (result ≡ Ok tt → used ≡ moved (read_went done)) }
 {
-    let read = ends::read_went(got, error);
-    let Went::On = read else {
-        return Turn {
-            pending: p,
-            used: 0,
-            left: 0,
-            went: read,
-            error,
-        };
-    };
-    let n = io::count(got, space);
-    answer_piece(output, book, summary, p, &space[..n])
+    let n = ends::read_went(done)?;
+    answer_piece(output, book, summary, pending, &space[..n])
 }
 
 // The input has ended: a line that has begun is answered.
-fn last_turn(output: &mut impl Write, book: &mut [u8], summary: &mut [u8], p: Pending) -> Put
-    requires { p.count ≤ most }
-    ensures { (folder book.new summary.new
-        ≡ last_book answering (held (folder book.old summary.old) p)) × Told result.went result.left }
+fn last_turn<W: Write>(
+    output: &mut W,
+    book: &mut [u8],
+    summary: &mut [u8],
+    pending: &Pending,
+) -> Result<(), Stop>
+    ensures { (folder book.new summary.new ≡ last_book answering (held (folder book.old summary.old) pending.now.items))
+        × Writes (W.contents output.old) (W.contents output.new)
+        (last_text answering (held (folder book.old summary.old) pending.now.items)) result }
 {
-    let mut out = [0u8; listing::ROOM];
-    let n = listing::finish(book, summary, &mut out, p);
-    write_out(output, &out[..n])
+    let mut page = Page::new();
+    listing::finish(book, summary, &mut page, pending);
+    write_out(output, page.as_slice())
 }
 
 // How the run ends: where the input has ended, after its last line.
-fn ending(
-    output: &mut impl Write,
+fn ending<W: Write>(
+    output: &mut W,
     book: &mut [u8],
     summary: &mut [u8],
-    p: Pending,
-    w: Went,
-    error: i32,
-) -> Put
-    requires { p.count ≤ most }
-    ensures { (folder book.new summary.new
-        ≡ end_book w (held (folder book.old summary.old) p)) × Goes Ended w result.went result.left }
+    pending: &Pending,
+    stop: Stop,
+) -> Result<(), Stop>
+    ensures { (folder book.new summary.new ≡ end_book stop (held (folder book.old summary.old) pending.now.items))
+        × Goes (Err Ended) (Err stop) result
+        (last_text answering (held (folder book.old summary.old) pending.now.items))
+        (W.contents output.old) (W.contents output.new) }
 {
-    let Went::Ended = w else {
-        return Put {
-            left: 0,
-            went: w,
-            error,
-        };
+    let Stop::Ended = stop else {
+        return Err(stop);
     };
-    last_turn(output, book, summary, p)
+    last_turn(output, book, summary, pending)
 }
 
-// Turn after turn, until the run does not go on. Where the input has ended, the last line is answered.
-fn run(input: &mut impl Read, output: &mut impl Write, book: &mut [u8], summary: &mut [u8]) -> Put {
-    let mut space = io::buffer();
-    let mut p = text::fresh();
+// Turn after turn, until the run stops. Where the input has ended, the last line is answered.
+fn run<R: Read, W: Write>(
+    input: &mut R,
+    output: &mut W,
+    book: &mut [u8],
+    summary: &mut [u8],
+) -> Result<(), Stop> {
+    let mut space = [0; SPACE];
+    let mut pending = Pending::new();
     for _ in 0..TURNS {
-        let call = ends::called(input.read(&mut space));
-        let t = take_turn(output, book, summary, p, &space, call.got, call.error);
-        p = t.pending;
-        let w = t.went;
-        let Went::On = w else {
-            return ending(output, book, summary, p, w, t.error);
-        };
+        let done = input.read(&mut space);
+        if let Err(stop) = take_turn(output, book, summary, &mut pending, &space, done) {
+            return ending(output, book, summary, &pending, stop);
+        }
     }
-    Put {
-        left: 0,
-        went: Went::Unread,
-        error: 0,
-    }
+    Err(Stop::Unread(None))
 }
 
-// Says which end has failed, and the system's reason. Where nobody can be told, nothing is left to do.
-fn fail(said: &mut impl Write, what: &[u8], error: i32) {
-    let reason = Error::from_raw_os_error(error);
+// Says which end has failed, and the reason. Where nobody can be told, nothing is left to do.
+fn fail(said: &mut impl Write, what: &[u8], reason: Option<Error>) {
+    let reason = reason.unwrap_or(Error::from_raw_os_error(0));
     let _ = said.write_all(what);
     let _ = writeln!(said, ": {reason}");
 }
 
 fn main(rt: HostRuntime) -> ExitCode {
-    let mut book = [0u8; parts::BOOK_BYTES];
-    let mut summary = [0u8; summary::SUMMARY_BYTES];
-    let end = run(&mut rt.stdin(), &mut rt.stdout(), &mut book, &mut summary);
-    let mut out = [0u8; 22];
-    let n = ends::word(&mut out, end.went);
-    if n > 0 {
-        fail(&mut rt.stderr(), &out[..n], end.error);
-        return ExitCode::FAILURE;
-    }
-    let Went::Gone = end.went else {
+    let mut book = [0; parts::BOOK_BYTES];
+    let mut summary = [0; summary::SUMMARY_BYTES];
+    let Err(stop) = run(&mut rt.stdin(), &mut rt.stdout(), &mut book, &mut summary) else {
         return ExitCode::SUCCESS;
     };
-    ExitCode::from(READER_GONE)
+    match stop {
+        Stop::Ended => ExitCode::SUCCESS,
+        Stop::Gone => ExitCode::from(READER_GONE),
+        Stop::Unread(reason) | Stop::Unwritten(reason) => {
+            fail(&mut rt.stderr(), ends::word(stop), reason);
+            ExitCode::FAILURE
+        }
+    }
 }

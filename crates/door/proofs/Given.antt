@@ -5,29 +5,26 @@ use Prim.Native.Nat.{ℕ, ◌<◌, ◌≤◌}
 use mathlib.Core.Path.{◌≡◌, refl, sym, ap, ◌∙◌, subst}
 use mathlib.Core.Bool.{Bool, true, false, ◌&&◌, ◌||◌, true≢false}
 use mathlib.Core.List.{List, [], ◌∷◌}
-use borrow.Author.Tests.{ne_eqb, lt-ltb, le-ltb, ltb-false}
+use borrow.Author.Tests.{lt-ltb, le-ltb, ltb-false}
 use lib.Dec.{eqb, ltb}
 use lib.ListN.{length}
 use native.Mathlib.Omega.{arith}
 use Rattle.tools.specs.Tests.{pick}
 use Rattle.tools.specs.Lists.{listed}
 use Rattle.tools.proofs.Tests.{or_false_l, or_false_r}
+use Rattle.std.specs.Prelude.{Result, Ok, Err, Some, None, cond}
+use Rattle.std.specs.Prelude as Std
 use Rattle.rules.specs.declared.Stamp.{Stamp}
-use Rattle.rules.specs.declared.Stamped.{Stamped}
-use Rattle.rules.specs.declared.Received.{Received}
-use Rattle.rules.specs.declared.Posted.{Posted}
-use Rattle.rules.specs.declared.Posted.TheVariants as Posts
-use Rattle.rules.specs.declared.Told.{Told}
-use Rattle.rules.specs.declared.Compared.{Compared}
-use Rattle.rules.specs.declared.Pictured.{Pictured}
-use Rattle.rules.specs.declared.Pictured.TheVariants as Pictures
-use Rattle.rules.specs.declared.Kept.{Kept}
-use Rattle.rules.specs.declared.Kept.TheVariants as Keeps
-use Rattle.rules.specs.Model.{Value, nothing, says, names, Answer, refusal, accepted}
-use Rattle.rules.specs.Replies.{row_of, slot_in, event_says, stamped_says, received_says, posted_says, told_says, compared_says, pictured_says}
+use Rattle.rules.specs.declared.Refusal.{Refusal}
+use Rattle.rules.specs.declared.Relation.{Relation}
+use Rattle.rules.specs.Labels.{newer}
+use Rattle.rules.specs.Numbers.{number}
+use Rattle.rules.specs.Model.{Odds, Value, nothing, says, relates, names, Answer, refusal, accepted}
+use Rattle.rules.specs.Replies.{number_in, answer_by, row_of, slot_in, reset_value, pictured_says}
 use Rattle.book.specs.Stamps.{write_stamp, filled}
 use Rattle.parts.proofs.Lent.{filled_none}
-use Rattle.door.specs.Door.{one, Lent, lent, byte_to, place_to, learnt_to, odds_to, slot_to, record_to, short, or_no_room, cramped}
+use Rattle.door.specs.Door.{relation_byte, which_byte, byte_in, which_in, foretold_in}
+use Rattle.door.specs.Door.{one, Lent, lent, byte_to, odds_to, short, or_no_room, cramped}
 use Rattle.door.specs.Door.{Fills, Gets, Gives, GivesByte}
 
 -- the number with NoRoom as one more reason
@@ -81,7 +78,8 @@ byte_short t u l f v z e =
 
 pub byte_given : (t : List ℕ) (u : ℕ) (l : List ℕ) → 1 ≤ length t → l ≡ filled t (u ∷ []) → GivesByte u t l 0
 byte_given t u l m g f v z e =
-    has_room (lent 1 f t l ∷ []) (accepted v) 0 (le-ltb (length t) 1 m) refl (fills 1 f t [] l v (g ∙ ap (filled t) (sym e)) (fills_none v))
+    has_room (lent 1 f t l ∷ []) (accepted v) 0 (le-ltb (length t) 1 m) refl
+    (fills 1 f t [] l v (g ∙ ap (filled t) (sym e)) (fills_none v))
 
 -- a value whose bytes f are that one
 pub byte_as : (f : Value → List ℕ) → f nothing ≡ [] → (t l : List ℕ) (r : ℕ) (v : Value) (a : Answer) → a ≡ accepted v
@@ -92,52 +90,67 @@ byte_as f none t l r v a e u g x = subst (λ (b : Answer). Gives b (lent 1 f t l
 abbrev record_of : ℕ → Stamp → List ℕ
 record_of D x = write_stamp D (record { owner = x.owner; row = row_of x.row })
 
--- an event that is refused, and an accepted one with the record w
-module _ (x : Stamped) (D : ℕ) (t u : List ℕ) where
-  pub stamp_refused : (x.number ≡ 0 → ⊥)
-      → Gets (stamped_says x) (record_to D t t ∷ slot_to true u u ∷ []) x.number
-  unfolding event_says
-  stamp_refused ne = let e = ne_eqb x.number 0 ne in record { number = rw e; buffers = rw e (search lending) }
+-- an answer whose value v gives bytes by f: refused, and accepted with the one byte n
+module _ {A : Type 0} (v : A → Value) (f : Value → List ℕ) (none : f nothing ≡ []) (a : Result A Refusal) (t l : List ℕ) (r : ℕ) where
+  pub gives_refusal : (w : Refusal) → a ≡ Err w → l ≡ t → r ≡ (cramped (ltb (length t) 1) (refusal (number w))).number
+      → Gives (answer_by v a) (lent 1 f t l ∷ []) r
+  gives_refusal w e q h =
+      subst (λ (l : List ℕ). Gives (answer_by v a) (lent 1 f t l ∷ []) r) (sym q)
+      (refused (lent 1 f t t ∷ []) (answer_by v a) r (number w) (ap (answer_by v) e) h (still 1 f t [] none (fills_none nothing)))
 
-  pub stamp_given_lem : x.number ≡ 0 → (w l k : List ℕ) → w ≡ record_of D x.stamp → l ≡ filled t w
-      → k ≡ filled u (listed one (slot_in x.kept))
-      → Gets (stamped_says x) (record_to D t l ∷ slot_to true u k ∷ []) 0
-  unfolding event_says
-  stamp_given_lem e w l k h g o = let f = g ∙ ap (filled t) h in record { number = rw e; buffers = rw e (search lending) }
+  pub gives_value : (x : A) (n : ℕ) → a ≡ Ok x → GivesByte n t l r → f (v x) ≡ one n
+      → Gives (answer_by v a) (lent 1 f t l ∷ []) r
+  gives_value x n e g h = byte_as f none t l r (v x) (answer_by v a) (ap (answer_by v) e) n g (sym h)
 
--- a receive that is refused, and an accepted one
-module _ (x : Received) (D : ℕ) (t p u : List ℕ) where
-  pub received_refused : (x.number ≡ 0 → ⊥)
-      → Gets (received_says x) (record_to D t t ∷ learnt_to p p ∷ slot_to true u u ∷ []) x.number
-  unfolding event_says
-  received_refused ne = let e = ne_eqb x.number 0 ne in record { number = rw e; buffers = rw e (search lending) }
+-- the one byte of a value, by its case
+pub told_byte : (x : Bool) (n : ℕ) → n ≡ cond x 1 0 → byte_in (says x) ≡ one n
+told_byte true n e = sym (ap one e)
+told_byte false n e = sym (ap one e)
 
-  pub received_given : x.number ≡ 0 → (w l o k : List ℕ) → w ≡ record_of D x.stamp → l ≡ filled t w → o ≡ filled p (x.learnt ∷ [])
-      → k ≡ filled u (listed one (slot_in x.kept))
-      → Gets (received_says x) (record_to D t l ∷ learnt_to p o ∷ slot_to true u k ∷ []) 0
-  unfolding event_says
-  received_given e w l o k h g y z = let f = g ∙ ap (filled t) h in record { number = rw e; buffers = rw e (search lending) }
+pub relation_told : (x : Relation) (n : ℕ) → n ≡ relation_byte x → byte_in (relates x) ≡ one n
+relation_told x n e = sym (ap one e)
 
--- a send that is refused, and an accepted one
-module _ (m : Posted) (x : Stamp) (κ : Kept) (D : ℕ) (t p u : List ℕ) where
-  pub sent_refused : (n : ℕ) → m ≡ Posts.Refused n
-      → Gets (posted_says m x κ) (record_to D t t ∷ place_to p p ∷ slot_to true u u ∷ []) n
-  sent_refused n e = rw e (record { number = refl; buffers = search lending })
+pub newest_told : (x : Relation) (n : ℕ) → n ≡ which_byte (newer x) → which_in (relates x) ≡ one n
+newest_told x n e = sym (ap one e)
 
-  pub sent_given : (i : ℕ) → m ≡ Posts.At i → (w l o k : List ℕ) → w ≡ record_of D x → l ≡ filled t w → o ≡ filled p (i ∷ [])
-      → k ≡ filled u (listed one (slot_in κ))
-      → Gets (posted_says m x κ) (record_to D t l ∷ place_to p o ∷ slot_to true u k ∷ []) 0
-  sent_given i e w l o k h g y z = let f = g ∙ ap (filled t) h in rw e (record { number = refl; buffers = search lending })
+-- the number that a reset would be refused with, 0 for none
+abbrev pub reset_byte : Std.Option Refusal → ℕ
+reset_byte None = 0
+reset_byte (Some w) = number w
+
+pub reset_told : (x : Std.Option Refusal) (n : ℕ) → n ≡ reset_byte x → foretold_in (reset_value x) ≡ one n
+reset_told None n e = sym (ap one e)
+reset_told (Some w) n e = sym (ap one e)
+
+-- the number that an answer says
+pub number_said : {A : Type 0} (v : A → Value) (a : Result A Refusal) → number_in a ≡ (answer_by v a).number
+number_said v (Ok x) = refl
+number_said v (Err w) = refl
+
+-- a refused answer, whatever its buffers, which are as they were
+pub gets_refusal : {A : Type 0} (v : A → Value) (a : Result A Refusal) (w : Refusal) → a ≡ Err w → (ls : List Lent) → Fills ls nothing
+    → Gets (answer_by v a) ls (number w)
+gets_refusal v a w e ls k = rw e (record { number = refl; buffers = k })
+
+-- an accepted one
+pub gets_value : {A : Type 0} (v : A → Value) (a : Result A Refusal) (x : A) → a ≡ Ok x → (ls : List Lent) → Fills ls (v x)
+    → Gets (answer_by v a) ls 0
+gets_value v a x e ls k = rw e (record { number = refl; buffers = k })
+
+-- a record of the stamp x, of so many desks
+pub stamp_given : (D : ℕ) (x : Stamp) (t w l : List ℕ) → w ≡ record_of D x → l ≡ filled t w → l ≡ filled t (record_of D x)
+stamp_given D x t w l e g = g ∙ ap (filled t) e
 
 -- a slot, by its case
-pub no_slot_lem : (κ : Kept) (u : List ℕ) → κ ≡ Keeps.No → u ≡ filled u (listed one (slot_in κ))
-no_slot_lem κ u e = sym (ap (λ (κ : Kept). filled u (listed one (slot_in κ))) e ∙ filled_none u)
+pub no_slot_lem : (k : Std.Option ℕ) (u : List ℕ) → k ≡ None → u ≡ filled u (listed one (slot_in k))
+no_slot_lem k u e = sym (ap (λ k. filled u (listed one (slot_in k))) e ∙ filled_none u)
 
-pub in_slot_lem : (κ : Kept) (s : ℕ) (u l : List ℕ) → κ ≡ Keeps.In s → l ≡ filled u (s ∷ []) → l ≡ filled u (listed one (slot_in κ))
-in_slot_lem κ s u l e g = g ∙ sym (ap (λ (κ : Kept). filled u (listed one (slot_in κ))) e)
+pub in_slot_lem : (k : Std.Option ℕ) (s : ℕ) (u l : List ℕ) → k ≡ Some s → l ≡ filled u (s ∷ [])
+    → l ≡ filled u (listed one (slot_in k))
+in_slot_lem k s u l e g = g ∙ sym (ap (λ k. filled u (listed one (slot_in k))) e)
 
-pub slot_room : (κ : Kept) (s : ℕ) (u : List ℕ) → κ ≡ Keeps.In s → length (listed one (slot_in κ)) ≤ length u → 1 ≤ length u
-slot_room κ s u e l = rw e at l
+pub slot_room : (k : Std.Option ℕ) (s : ℕ) (u : List ℕ) → k ≡ Some s → length (listed one (slot_in k)) ≤ length u → 1 ≤ length u
+slot_room k s u e l = rw e at l
 
 -- a slot that is kept needs a byte
 pub short_slot : (q : Bool) (n : ℕ) → (q && ltb n 1) ≡ ltb n (pick q 1 0)
@@ -145,24 +158,25 @@ short_slot true n = refl
 short_slot false n = sym (le-ltb n 0 (omega arith))
 
 -- picture, in a buffer for the answer and one for the two desks at odds
-module _ (x : Pictured) (t p : List ℕ) where
+module _ (x : Result (Std.Option Odds) Refusal) (t p : List ℕ) where
   pub picture_short : (ltb (length p) 2 || ltb (length t) 1) ≡ true → (n : ℕ) → n ≡ (pictured_says x).number
       → (r : ℕ) → r ≡ (cramped true (refusal n)).number → Gives (pictured_says x) (byte_to t t ∷ odds_to p p ∷ []) r
   picture_short q n e r h = no_room _ (pictured_says x) r q (h ∙ ap or_no_room e) (search lending)
 
   module _ (q : (ltb (length p) 2 || ltb (length t) 1) ≡ false) where
-    pub picture_refused : (n : ℕ) → x ≡ Pictures.Refused n → Gives (pictured_says x) (byte_to t t ∷ odds_to p p ∷ []) n
-    picture_refused n e = rw e (has_room _ (refusal n) n q refl (search lending))
+    pub picture_refused : (w : Refusal) → x ≡ Err w → Gives (pictured_says x) (byte_to t t ∷ odds_to p p ∷ []) (number w)
+    picture_refused w e = rw e (has_room _ (refusal (number w)) (number w) q refl (search lending))
 
-    pub picture_yes : x ≡ Pictures.Yes → (l : List ℕ) → l ≡ filled t (1 ∷ [])
+    pub picture_yes : x ≡ Ok None → (l : List ℕ) → l ≡ filled t (1 ∷ [])
         → Gives (pictured_says x) (byte_to t l ∷ odds_to p p ∷ []) 0
     picture_yes e l g =
         let k = sym (filled_none p) in
         rw e (has_room _ (accepted (says true)) 0 q refl (search lending))
 
-    pub picture_odds : (i k : ℕ) → x ≡ Pictures.Odds i k → (l o : List ℕ) → l ≡ filled t (0 ∷ []) → o ≡ filled p (i ∷ k ∷ [])
+    pub picture_odds : (d : Odds) → x ≡ Ok (Some d) → (l o : List ℕ) → l ≡ filled t (0 ∷ [])
+        → o ≡ filled p (d.lower ∷ d.higher ∷ [])
         → Gives (pictured_says x) (byte_to t l ∷ odds_to p o ∷ []) 0
-    picture_odds i k e l o g h = rw e (has_room _ (accepted (names i k)) 0 q refl (search lending))
+    picture_odds d e l o g h = rw e (has_room _ (accepted (names d.lower d.higher)) 0 q refl (search lending))
 
     -- each buffer has its room
     pub answer_room : 1 ≤ length t
@@ -171,20 +185,8 @@ module _ (x : Pictured) (t p : List ℕ) where
     pub odds_room : 2 ≤ length p
     odds_room = ltb-false (length p) 2 (or_false_l (ltb (length p) 2) _ q)
 
--- what an answer says, by its case
-pub told_as : (t u : Told) → t ≡ u → told_says t ≡ told_says u
-told_as t u e = ap told_says e
-
-pub compared_as : (t u : Compared) → t ≡ u → compared_says t ≡ compared_says u
-compared_as t u e = ap compared_says e
-
-pub one_byte : (u v : ℕ) → u ≡ v → u ∷ [] ≡ v ∷ []
-one_byte u v e = ap (λ (u : ℕ). u ∷ []) e
-
-pub ruleset cases = (told_as, compared_as, one_byte)
-
-pub ruleset stamps = (stamp_refused, stamp_given_lem, received_refused, received_given, sent_refused, sent_given, no_slot_lem, in_slot_lem, slot_room)
+pub ruleset slots = (no_slot_lem, in_slot_lem, slot_room)
 
 pub ruleset pictures = (picture_short, picture_refused, picture_yes, picture_odds, answer_room, odds_room)
 
-pub ruleset gave = (cases, stamps, pictures, room_lacks, room_enough, refused, byte_short, byte_given, byte_as, lending)
+pub ruleset gave = (slots, pictures, room_lacks, room_enough, byte_short, byte_given, stamp_given, lending)

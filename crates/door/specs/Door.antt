@@ -36,7 +36,8 @@ use Rattle.tools.specs.Lists.{listed}
 use Rattle.rules.specs.declared.SetupNumbers.{SetupNumbers}
 use Rattle.rules.specs.declared.Relation.{Relation}
 use Rattle.rules.specs.declared.Relation.TheVariants.{Before, After, Same, Concurrent, Crossed}
-use Rattle.rules.specs.Numbers.{NoRoom, number}
+use Rattle.rules.specs.declared.Refusal.TheVariants.{NoRoom}
+use Rattle.rules.specs.Numbers.{number}
 use Rattle.rules.specs.Model.{Odds, Value, nothing, Answer, refusal, accepted}
 use Rattle.rules.specs.Calls.{Call}
 use Rattle.rules.specs.Labels.{Which, First, Second, Neither, newer}

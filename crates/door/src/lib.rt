@@ -3,30 +3,43 @@
 
 #![tactic(auto)]
 
-ghost use Rattle.std.specs.Prelude.{◌≡◌, true, [], ◌∷◌, ◌≤◌, length, ltb};
+ghost use Rattle.std.specs.Prelude.{◌≡◌, true, ℕ, List, [], ◌∷◌, ◌≤◌, length, ltb, IfOk};
 ghost use Rattle.tools.specs.Tests.{pick};
 ghost use Rattle.tools.specs.Lists.{listed};
-ghost use Rattle.rules.specs.Model.{refusal};
+ghost use Rattle.rules.specs.Setups.{setup_with, setup_in};
+ghost use Rattle.rules.specs.Model.{Value, nothing, refusal};
 ghost use Rattle.rules.specs.Labels.{newer};
 ghost use Rattle.book.specs.Layout.{record_size};
-ghost use Rattle.book.specs.Stamps.{filled};
-ghost use Rattle.rules.specs.Replies.{slot_in, stamped_says, received_says, posted_says};
+ghost use Rattle.book.specs.Stamps.{write_stamp, filled};
+ghost use Rattle.rules.specs.Replies.{number_in, answer_by, row_of, slot_in, stamped_says, received_says, sent_says};
 ghost use Rattle.rules.specs.Replies.{told_says, compared_says, pictured_says, foretold_says};
-ghost use Rattle.door.specs.Door.{numbers_by, relation_byte, which_byte, one, byte_to, place_to, learnt_to, slot_to};
+ghost use Rattle.door.specs.Door.{numbers_by, relation_byte, which_byte, one, lent, byte_to, place_to, learnt_to, slot_to};
 ghost use Rattle.door.specs.Door.{odds_to, which_to, foretold_to, record_to};
 ghost use Rattle.door.specs.Door.{cramped, Gets, Gives, GivesByte};
 
-use rules::{
-    Compared, Foretold, Kept, Pictured, Posted, Received, Relation, Sent, SetupNumbers, Stamped,
-    Told,
-};
+use rules::{GivenSetup, Odds, Received, Refusal, Relation, Sent, SetupNumbers, Stamp, Stamped};
+
+// The number of a call that is done.
+pub const DONE: u8 = 0;
+
+const NO_ROOM: u8 = Refusal::NoRoom as u8;
+
+// The number of an answer.
+pub fn number<T>(answer: &Result<T, Refusal>) -> u8
+    ensures { result ≡ number_in answer.now }
+{
+    match answer {
+        Ok(_) => DONE,
+        Err(refusal) => refusal.number(),
+    }
+}
 
 // The number of a call, with NoRoom as one more reason where a lent buffer is too short.
 pub fn number_by(short: bool, number: u8) -> u8
     ensures { result ≡ (cramped short (refusal number)).number }
 {
-    if short & ((number == rules::DONE) | (rules::NO_ROOM < number)) {
-        return rules::NO_ROOM;
+    if short & ((number == DONE) | (NO_ROOM < number)) {
+        return NO_ROOM;
     }
     number
 }
@@ -43,23 +56,31 @@ fn give_byte(target: &mut [u8], value: u8) -> u8
     ensures { GivesByte value target.old target.new result }
 {
     if target.len() < 1 {
-        return rules::NO_ROOM;
+        return NO_ROOM;
     }
-    let one = [value];
-    parts::lend(target, &one);
-    rules::DONE
+    parts::lend(target, &[value]);
+    DONE
 }
 
-pub fn give_told(target: &mut [u8], told: Told) -> u8
+// An answer whose value is told by one byte.
+fn give<T, F: FnOnce(T) -> u8>(target: &mut [u8], answer: Result<T, Refusal>, byte: F) -> u8
+    requires { F.IsAlwaysCallable byte }
+    ensures { (v : T → Value) (f : Value → List ℕ) → f nothing ≡ [] → ((x : T) (n : ℕ) → F.post byte x n → f (v x) ≡ one n)
+        → Gives (answer_by v answer) (lent 1 f target.old target.new ∷ []) result }
+{
+    match answer {
+        Ok(value) => give_byte(target, byte(value)),
+        Err(refusal) => number_by(target.len() < 1, refusal.number()),
+    }
+}
+
+pub fn give_told(target: &mut [u8], told: Result<bool, Refusal>) -> u8
     ensures { Gives (told_says told) (byte_to target.old target.new ∷ []) result }
 {
-    match told {
-        Told::Yes => give_byte(target, 1),
-        Told::No => give_byte(target, 0),
-        Told::Refused(n) => number_by(target.len() < 1, n),
-    }
+    give(target, told, |yes| u8::from(yes))
 }
 
+// No From: it would stand in rules, which knows no bytes of C.
 fn relation_byte(relation: Relation) -> u8
     ensures { result ≡ relation_byte relation }
 {
@@ -72,47 +93,35 @@ fn relation_byte(relation: Relation) -> u8
     }
 }
 
-pub fn give_relation(target: &mut [u8], compared: Compared) -> u8
+pub fn give_relation(target: &mut [u8], compared: Result<Relation, Refusal>) -> u8
     ensures { Gives (compared_says compared) (byte_to target.old target.new ∷ []) result }
 {
-    match compared {
-        Compared::Is(relation) => give_byte(target, relation_byte(relation)),
-        Compared::Refused(n) => number_by(target.len() < 1, n),
-    }
-}
-
-fn picture_number(pictured: Pictured) -> u8
-    ensures { result ≡ (pictured_says pictured).number }
-{
-    match pictured {
-        Pictured::Yes => rules::DONE,
-        Pictured::Odds(_, _) => rules::DONE,
-        Pictured::Refused(n) => n,
-    }
+    give(target, compared, |relation| relation_byte(relation))
 }
 
 // Yes as 1, or 0 and the two desks at odds.
-pub fn give_pictured(answer: &mut [u8], odds: &mut [u8], pictured: Pictured) -> u8
+pub fn give_pictured(
+    answer: &mut [u8],
+    odds: &mut [u8],
+    pictured: Result<Option<Odds>, Refusal>,
+) -> u8
     ensures { Gives (pictured_says pictured) (byte_to answer.old answer.new
         ∷ odds_to odds.old odds.new ∷ []) result }
 {
     if (odds.len() < 2) | (answer.len() < 1) {
-        return number_by(true, picture_number(pictured));
+        return number_by(true, number(&pictured));
     }
     match pictured {
-        Pictured::Yes => {
-            let yes = [1];
-            parts::lend(answer, &yes);
-            rules::DONE
+        Ok(None) => {
+            parts::lend(answer, &[1]);
+            DONE
         }
-        Pictured::Odds(lower, higher) => {
-            let no = [0];
-            let desks = [lower, higher];
-            parts::lend(answer, &no);
-            parts::lend(odds, &desks);
-            rules::DONE
+        Ok(Some(two)) => {
+            parts::lend(answer, &[0]);
+            parts::lend(odds, &[two.lower, two.higher]);
+            DONE
         }
-        Pictured::Refused(n) => n,
+        Err(refusal) => refusal.number(),
     }
 }
 
@@ -122,62 +131,59 @@ fn newer_byte(relation: Relation) -> u8
 {
     match relation {
         Relation::Before => 2,
-        Relation::After => 1,
-        Relation::Same => 1,
-        Relation::Concurrent => 0,
-        Relation::Crossed => 0,
+        Relation::After | Relation::Same => 1,
+        Relation::Concurrent | Relation::Crossed => 0,
     }
 }
 
-pub fn give_newest(target: &mut [u8], compared: Compared) -> u8
+pub fn give_newest(target: &mut [u8], compared: Result<Relation, Refusal>) -> u8
     ensures { Gives (compared_says compared) (which_to target.old target.new ∷ []) result }
 {
-    match compared {
-        Compared::Is(relation) => give_byte(target, newer_byte(relation)),
-        Compared::Refused(n) => number_by(target.len() < 1, n),
-    }
+    give(target, compared, |relation| newer_byte(relation))
 }
 
 // The number that a reset would be answered, 0 for yes.
-pub fn give_foretold(target: &mut [u8], foretold: Foretold) -> u8
+pub fn give_foretold(target: &mut [u8], foretold: Result<Option<Refusal>, Refusal>) -> u8
     ensures { Gives (foretold_says foretold) (foretold_to target.old target.new ∷ []) result }
 {
-    match foretold {
-        Foretold::Is(n) => give_byte(target, n),
-        Foretold::Refused(n) => number_by(target.len() < 1, n),
-    }
+    give(
+        target,
+        foretold,
+        |reset| reset.map_or(DONE, |refusal| refusal.number()),
+    )
 }
 
-// The slot of an event that is kept, and nothing of one that is not.
-fn give_slot(target: &mut [u8], kept: Kept)
-    requires { length (listed one (slot_in kept)) ≤ length target.old }
-    ensures { target.new ≡ filled target.old (listed one (slot_in kept)) }
+// The stamp of an event as a record, and its slot where it is kept.
+fn give_event(stamp: &mut [u8], slot: &mut [u8], desks: u8, own: Stamp, kept: Option<u8>)
+    requires { (record_size ≤ length stamp.old) × (length (listed one (slot_in kept)) ≤ length slot.old) }
+    ensures record { stamp.new ≡ filled stamp.old (write_stamp desks (record { owner = own.owner; row = row_of own.row })) }
+    ensures slot { slot.new ≡ filled slot.old (listed one (slot_in kept)) }
 {
-    match kept {
-        Kept::No => {}
-        Kept::In(s) => {
-            let one = [s];
-            parts::lend(target, &one);
-        }
+    parts::lend(stamp, &labels::record_of(desks, own));
+    if let Some(s) = kept {
+        parts::lend(slot, &[s]);
     }
 }
 
 // The stamp of an accepted event as a record, and its slot where it is kept. All buffers have room.
-pub fn give_stamp(stamp: &mut [u8], slot: &mut [u8], desks: u8, stamped: Stamped) -> u8
+pub fn give_stamp(
+    stamp: &mut [u8],
+    slot: &mut [u8],
+    desks: u8,
+    stamped: Result<Stamped, Refusal>,
+) -> u8
     requires record_size_in_bounds { record_size ≤ length stamp.old }
-    requires kept_in_bounds { length (listed one (slot_in stamped.kept)) ≤ length slot.old }
+    requires kept_in_bounds { IfOk stamped (λ x. length (listed one (slot_in x.slot)) ≤ length slot.old) }
     ensures { Gets (stamped_says stamped)
         (record_to desks stamp.old stamp.new ∷ slot_to true slot.old slot.new ∷ []) result }
 {
-    if stamped.number != rules::DONE {
-        return stamped.number;
+    match stamped {
+        Ok(event) => {
+            give_event(stamp, slot, desks, event.stamp, event.slot);
+            DONE
+        }
+        Err(refusal) => refusal.number(),
     }
-    let own = stamped.stamp;
-    let kept = stamped.kept;
-    let bytes = labels::record_of(desks, own);
-    parts::lend(stamp, &bytes);
-    give_slot(slot, kept);
-    rules::DONE
 }
 
 // The stamp of an accepted receive as a record, of how many desks it learnt, and its slot where it is kept. All buffers have room.
@@ -186,67 +192,67 @@ pub fn give_received(
     learnt: &mut [u8],
     slot: &mut [u8],
     desks: u8,
-    received: Received,
+    received: Result<Received, Refusal>,
 ) -> u8
     requires record_size_in_bounds { (record_size ≤ length stamp.old) × (1 ≤ length learnt.old) }
-    requires kept_in_bounds { length (listed one (slot_in received.kept)) ≤ length slot.old }
+    requires kept_in_bounds { IfOk received (λ x. length (listed one (slot_in x.slot)) ≤ length slot.old) }
     ensures { Gets (received_says received)
         (record_to desks stamp.old stamp.new ∷ learnt_to learnt.old learnt.new
         ∷ slot_to true slot.old slot.new ∷ []) result }
 {
-    if received.number != rules::DONE {
-        return received.number;
+    match received {
+        Ok(event) => {
+            give_event(stamp, slot, desks, event.stamp, event.slot);
+            parts::lend(learnt, &[event.learnt]);
+            DONE
+        }
+        Err(refusal) => refusal.number(),
     }
-    let own = received.stamp;
-    let kept = received.kept;
-    let label = labels::record_of(desks, own);
-    let told = [received.learnt];
-    parts::lend(stamp, &label);
-    parts::lend(learnt, &told);
-    give_slot(slot, kept);
-    rules::DONE
 }
 
 // The stamp of an accepted send as a record, its place, and its slot where it is kept. All buffers have room.
-pub fn give_sent(stamp: &mut [u8], place: &mut [u8], slot: &mut [u8], desks: u8, sent: Sent) -> u8
+pub fn give_sent(
+    stamp: &mut [u8],
+    place: &mut [u8],
+    slot: &mut [u8],
+    desks: u8,
+    sent: Result<Sent, Refusal>,
+) -> u8
     requires record_size_in_bounds { (record_size ≤ length stamp.old) × (1 ≤ length place.old) }
-    requires kept_in_bounds { length (listed one (slot_in sent.kept)) ≤ length slot.old }
-    ensures { Gets (posted_says sent.place sent.stamp sent.kept)
+    requires kept_in_bounds { IfOk sent (λ x. length (listed one (slot_in x.slot)) ≤ length slot.old) }
+    ensures { Gets (sent_says sent)
         (record_to desks stamp.old stamp.new ∷ place_to place.old place.new
         ∷ slot_to true slot.old slot.new ∷ []) result }
 {
-    let posted = sent.place;
-    let own = sent.stamp;
-    let kept = sent.kept;
-    match posted {
-        Posted::At(p) => {
-            let record = labels::record_of(desks, own);
-            let at = [p];
-            parts::lend(stamp, &record);
-            parts::lend(place, &at);
-            give_slot(slot, kept);
-            rules::DONE
+    match sent {
+        Ok(event) => {
+            give_event(stamp, slot, desks, event.stamp, event.slot);
+            parts::lend(place, &[event.place]);
+            DONE
         }
-        Posted::Refused(n) => n,
+        Err(refusal) => refusal.number(),
     }
 }
 
-pub fn numbers_by(
+// The setup that a caller in C gives, number by number.
+pub fn setup_by(
     desks: usize,
     phases: usize,
+    limits: &[usize],
     seat_lag: usize,
     shelf_lag: usize,
     back: usize,
     ahead: usize,
-) -> SetupNumbers
-    ensures { result ≡ numbers_by desks phases seat_lag shelf_lag back ahead }
+) -> GivenSetup<'_>
+    ensures { setup_in result ≡ setup_with (numbers_by desks phases seat_lag shelf_lag back ahead) limits.now }
 {
-    SetupNumbers {
-        desks: desks,
-        phases: phases,
-        seat_lag: seat_lag,
-        shelf_lag: shelf_lag,
-        back: back,
-        ahead: ahead,
-    }
+    let numbers = SetupNumbers {
+        desks,
+        phases,
+        seat_lag,
+        shelf_lag,
+        back,
+        ahead,
+    };
+    GivenSetup { numbers, limits }
 }

@@ -1,137 +1,144 @@
--- What the answer of a call and the system's reason make of the run. A signed number is read back from its bits.
+-- What a write makes of the run, and what a writer holds after it.
 -- Assumes nothing.
---   read_back      a signed number is the one that its bits say
---   other_reason   a call that failed for a reason of its own
---   failed, moved  a call that failed, and one that moved bytes
---   not_on         a run whose tag is one of the others does not go on
---   untold         a write that ends the run leaves bytes unwritten
---   prints, stands a run that goes by what it prints, and one that goes as it had
---   not_ended      one whose tag is one of the others has not ended
---   ends           a run whose input has not ended ends as it went, and leaves the book and papers alone
---   ends_last      one whose input has ended leaves the book and papers that its last line leaves, and ends by how that is written
-use Prim.Native.Nat.{ℕ, zero, suc, ◌<◌}
+--   untold       a write that stops the run leaves bytes unwritten
+--   kept, joins  what a writer holds after a call that keeps it, and after two that append
+--   holds_none, same   what it holds where nothing is written
+--   wrote        a part of a text that is written, and the bytes that a call takes of the rest
+--   taken, read  a call moves no more bytes than it is given room for
+--   all, whole   a text that is written to its end lets the run go on, and where it goes on the text is written to its end
+--   behind       a text behind one that is written
+--   prints, stands   a run that goes by what it prints, and one that goes as it had
+--   ends         a run whose input has not ended ends as it went, and leaves the book and papers alone
+--   ends_last    one whose input has ended leaves the book and papers that its last line leaves, and ends by how that is written
+use Prim.Native.Nat.{ℕ, zero, suc, ◌+◌, ◌-◌, ◌<◌, ◌≤◌}
 use mathlib.Core.Path.{◌≡◌, refl, sym, ap, ◌∙◌, subst}
-use mathlib.Core.Bool.{Bool, true, false, true≢false, ◌||◌}
-use mathlib.Core.List.{List, [], ◌∷◌}
-use borrow.Author.Tests.{ne_eqb, ltb-true}
+use mathlib.Core.List.{List, [], ◌∷◌, ◌++◌, append_assoc, append-nil}
 use native.Mathlib.Omega.{arith}
-use lib.Dec.{eqb}
-use lib.IntN.{ℤ, pos, negsuc}
-use lib.Signed.{lt_z}
-use mir.Syntax.{Width, w32, w64}
-use mir.Val.{to_z, of_z, SFits}
-use mir.ValLaws.{to_z-of_z}
-use denote.Enum.Declared.{tag_of}
-use types.Run.{OneOf, miss}
-use Rattle.tools.specs.Tests.{pick}
+use lib.ListN.{length, take, drop, length-append, length-drop}
+use lib.Seq.{take-add, take_all}
+use Rattle.std.specs.Prelude.{Result, Ok, Err, Option, Some, None, IfOk}
+use Rattle.std.specs.Io.KnownBytes.{Appends, Keeps, WriteAppends}
+use Rattle.std.specs.Io.{ReadsAtMost}
+use Rattle.std.specs.IoError.{error_kind}
+use Rattle.std.specs.declared.io.Error.{Error}
+use Rattle.std.specs.declared.io.ErrorKind.{ErrorKind}
+use Rattle.std.specs.declared.io.ErrorKind.TheVariants.{WouldBlock, Interrupted, BrokenPipe}
+use Rattle.ends.specs.declared.Stop.{Stop}
+use Rattle.ends.specs.declared.Stop.TheVariants.{Ended, Gone, Unread, Unwritten}
 use Rattle.text.specs.Stream.{State, last_book}
-use Rattle.office.specs.Office.{Folder}
 use Rattle.answering.specs.Answering.{answering}
-use Rattle.ends.specs.declared.Went.{Went}
-use Rattle.ends.specs.declared.Went.TheVariants.{On, Ended, Gone, Unread, Unwritten}
-use Rattle.ends.specs.Ends.{failure_went, call_went, write_went, Told, Goes, end_book}
-use Rattle.ends.specs.contracts.Went.{the_type}
+use Rattle.office.specs.Office.{Folder}
+use Rattle.ends.specs.Ends.{Outcome, failure_of, read_went, write_went, Told, Writes, Goes, end_book}
 
-pub read_back : (w : Width) (z : ℤ) → SFits w z → (n : ℕ) → of_z w z ≡ n → z ≡ to_z w n
-read_back w z f n e = sym (to_z-of_z w z f) ∙ ap (to_z w) e
+fails : (k : ErrorKind) (e : Option Error) (w : Stop) → failure_of k (Unwritten e) ≡ Err w → (n : ℕ) → 0 < n → Told (Err w) n
+fails WouldBlock e w h n l = absurd (cc h)
+fails Interrupted e w h n l = absurd (cc h)
+fails BrokenPipe e w h n l = let g : Gone ≡ w = cc h in subst (λ v. Told (Err v) n) g l
+fails _ e w h n l = let g : Unwritten e ≡ w = cc h in subst (λ v. Told (Err v) n) g l
 
-pub other_reason
-    : (e : ℤ) (bad : Went)
-    → (of_z w32 e ≡ 11 → ⊥) → (of_z w32 e ≡ 4 → ⊥) → (of_z w32 e ≡ 32 → ⊥)
-    → bad ≡ failure_went e bad
-unfolding failure_went
-other_reason (pos e) bad a b c = rw (ne_eqb e 11 a, ne_eqb e 4 b, ne_eqb e 32 c)
-other_reason (negsuc e) bad a b c = refl
+pub untold : (r : Result ℕ Error) (w : Stop) → write_went r ≡ Err w → (n : ℕ) → 0 < n → Told (Err w) n
+untold (Ok zero) w h n l = let g : Unwritten None ≡ w = cc h in subst (λ v. Told (Err v) n) g l
+untold (Ok (suc k)) w h n l = absurd (cc h)
+untold (Err e) w h n l = fails (error_kind e) (Some e) w h n l
 
-module _ (e : ℤ) (none bad : Went) where
-  pub failed
-      : (got : ℤ) → SFits w64 got
-      → lt_z (to_z w64 (of_z w64 got)) (pos 0) ≡ true
-      → (r : Went) → r ≡ failure_went e bad → r ≡ call_went got e none bad
-  unfolding call_went
-  failed got f t r h = go got (rw (to_z-of_z w64 got f) at t)
+-- a call that is made again has moved no byte
+again : (k : ErrorKind) (bad : Stop) (n : ℕ) → failure_of k bad ≡ Ok n → n ≡ 0
+again WouldBlock bad n h = cc h
+again Interrupted bad n h = cc h
+again BrokenPipe bad n h = absurd (cc h)
+again _ bad n h = absurd (cc h)
+
+pub kept : (a b c : Option (List ℕ)) (t : List ℕ) → Appends a b t → Keeps b c → Appends a c t
+kept None b c t p q = tt
+kept (Some x) None c t p q = absurd p
+kept (Some x) (Some y) None t p q = absurd q
+kept (Some x) (Some y) (Some z) t p q = q ∙ p
+
+pub joins : (a b c : Option (List ℕ)) (s t : List ℕ) → Appends a b s → Appends b c t → Appends a c (s ++ t)
+joins None b c s t p q = tt
+joins (Some x) None c s t p q = absurd p
+joins (Some x) (Some y) None s t p q = absurd q
+joins (Some x) (Some y) (Some z) s t p q = q ∙ ap (λ (l : List ℕ). l ++ t) p ∙ append_assoc x s t
+
+pub holds_none : (a : Option (List ℕ)) → Appends a a []
+holds_none None = tt
+holds_none (Some x) = sym (append-nil x)
+
+pub same : (a : Option (List ℕ)) → Keeps a a
+same None = tt
+same (Some x) = refl
+
+-- d bytes of xs are behind a, and the rest is asked to be written
+module _ (a b c : Option (List ℕ)) (xs : List ℕ) (d : ℕ) (held : Appends a b (take d xs)) (r : Result ℕ Error)
+    (w : WriteAppends b c r (take (length xs - d) (drop d xs))) where
+  grown : (n : ℕ) → Appends b c (take n (take (length xs - d) (drop d xs))) → Appends a c (take (d + n) xs)
+  grown n q =
+      let e : take (length xs - d) (drop d xs) ≡ drop d xs = take_all (length xs - d) (drop d xs) (simp length-drop (omega arith)) in
+      rw (take-add d n xs) (joins a b c (take d xs) (take n (drop d xs)) held (rw e at q))
+
+  pub wrote : (n : ℕ) → write_went r ≡ Ok n → Appends a c (take (d + n) xs)
+  wrote n h = go r h w
     where
-      go : (z : ℤ) → lt_z z (pos 0) ≡ true → r ≡ call_went z e none bad
-      go (pos n) t = absurd (omega (arith, ltb-true n 0 t))
-      go (negsuc n) t = h
+      go : (r : Result ℕ Error) → write_went r ≡ Ok n → WriteAppends b c r (take (length xs - d) (drop d xs)) → Appends a c (take (d + n) xs)
+      go (Ok zero) h w = absurd (cc h)
+      go (Ok (suc k)) h w = let e : suc k ≡ n = cc h in grown n (rw e at w)
+      go (Err e) h w =
+          let z : n ≡ 0 = again (error_kind e) _ n h in
+          let y : d + n ≡ d = omega arith in
+          rw y (kept a b c (take d xs) held w)
 
-  pub moved
-      : (got : ℤ) → SFits w64 got
-      → lt_z (to_z w64 (of_z w64 got)) (pos 0) ≡ false
-      → (of_z w64 got ≡ 0 → ⊥)
-      → On ≡ call_went got e none bad
-  unfolding call_went
-  moved got f t n = go got (rw (to_z-of_z w64 got f) at t) n
-    where
-      go : (z : ℤ) → lt_z z (pos 0) ≡ false → (of_z w64 z ≡ 0 → ⊥) → On ≡ call_went z e none bad
-      go (pos zero) t n = absurd (n refl)
-      go (pos (suc k)) t n = refl
-      go (negsuc k) t n = absurd (true≢false t)
+-- no more is taken than is there
+pub taken : (r : Result ℕ Error) (m n : ℕ) → IfOk r (λ k. k ≤ m) → write_went r ≡ Ok n → n ≤ m
+taken (Ok zero) m n b h = absurd (cc h)
+taken (Ok (suc k)) m n b h = let e : suc k ≡ n = cc h in rw e at b
+taken (Err e) m n b h = let z : n ≡ 0 = again (error_kind e) _ n h in omega arith
 
--- what a write can make of the run
-abbrev Writes : Went → Type 0
-Writes On = Unit
-Writes Ended = ⊥
-Writes Gone = Unit
-Writes Unread = ⊥
-Writes Unwritten = Unit
+-- the same of a read
+pub read : (r : Result ℕ Error) (xs : List ℕ) (n : ℕ) → ReadsAtMost r xs → read_went r ≡ Ok n → n ≤ length xs
+read (Ok zero) xs n b h = absurd (cc h)
+read (Ok (suc k)) xs n b h = let e : suc k ≡ n = cc h in rw e at b.0
+read (Err e) xs n b h = let z : n ≡ 0 = again (error_kind e) _ n h in omega arith
 
-writes_failure : (e : ℤ) → Writes (failure_went e Unwritten)
-unfolding failure_went
-writes_failure (pos e) = go (eqb e 11 || eqb e 4) (eqb e 32)
+-- a text that is written to its end
+pub all : (a b : Option (List ℕ)) (t : List ℕ) → Appends a b t → Writes a b t (Ok tt)
+all a b t p = (length t, rw (take_all (length t) t (omega arith)) p, omega arith, omega arith)
+
+pub whole : (a b : Option (List ℕ)) (t : List ℕ) (w : Outcome) → w ≡ Ok tt → Writes a b t w → Appends a b t
+whole a b t (Ok u) e (k, q, l, z) = rw (take_all k t (omega arith)) at q
+whole a b t (Err w) e q = absurd (cc e)
+
+cut : (s t : List ℕ) (k : ℕ) → take (length s + k) (s ++ t) ≡ s ++ take k t
+cut [] t k =
+    let e : 0 + k ≡ k = omega arith in
+    rw e
+cut (x ∷ s) t k =
+    let e : suc (length s) + k ≡ suc (length s + k) = omega arith in
+    rw e (ap (λ (l : List ℕ). x ∷ l) (cut s t k))
+
+-- a text behind one that is written
+pub behind : (a b c : Option (List ℕ)) (s t : List ℕ) (w : Outcome) → Appends a b s → Writes b c t w → Writes a c (s ++ t) w
+behind a b c s t w p (k, q, l, told) =
+    let e : length (s ++ t) - (length s + k) ≡ length t - k = omega (arith, length-append s t) in
+    (length s + k, rw (cut s t k) (joins a b c s (take k t) p q), omega (arith, length-append s t), rw e told)
+
+-- a run that goes by what it prints, and one that goes as it had
+module _ (u v : Outcome) (t : List ℕ) (a : Option (List ℕ)) where
+  pub prints : (w : Outcome) (b : Option (List ℕ)) → v ≡ u → Writes a b t w → Goes u v w t a b
+  prints w b e q = (λ _. q, λ ne. absurd (ne e))
+
+  pub stands : (v ≡ u → ⊥) → Goes u v v t a a
+  stands ne = (λ e. absurd (ne e), λ _. (refl, same a))
+
+pub ends : (w : Stop) → (w ≡ Ended → ⊥) → (s : State Folder) (t : List ℕ) (a : Option (List ℕ))
+    → (s.book ≡ end_book w s) × Goes (Err Ended) (Err w) (Err w) t a a
+ends w k s t a = (go w k, stands (Err Ended) (Err w) t a (λ e. k (cc e)))
   where
-    go : (s t : Bool) → Writes (pick s On (pick t Gone Unwritten))
-    go true t = tt
-    go false true = tt
-    go false false = tt
-writes_failure (negsuc e) = tt
-
-writes : (got e : ℤ) → Writes (write_went got e)
-unfolding write_went call_went
-writes (pos zero) e = tt
-writes (pos (suc n)) e = tt
-writes (negsuc n) e = writes_failure e
-
--- the tags of all but `On`
-abbrev others : List ℕ
-others = 1 ∷ 2 ∷ 3 ∷ 4 ∷ []
-
-pub not_on : (w : Went) → OneOf others (tag_of the_type w) → w ≡ On → ⊥
-not_on w k e = miss others 0 tt (subst (λ (v : Went). OneOf others (tag_of the_type v)) e k)
-
-pub untold : (got e : ℤ) (w : Went) → w ≡ write_went got e → (w ≡ On → ⊥) → (n : ℕ) → 0 < n → Told w n
-untold got e w h k n l = go w (subst Writes (sym h) (writes got e)) k
-  where
-    go : (w : Went) → Writes w → (w ≡ On → ⊥) → Told w n
-    go On s k = absurd (k refl)
-    go Ended s k = s
-    go Gone s k = l
-    go Unread s k = s
-    go Unwritten s k = l
-
-pub prints : (u v w : Went) (n : ℕ) → v ≡ u → Told w n → Goes u v w n
-prints u v w n e t = (λ _. t, λ ne. absurd (ne e))
-
-pub stands : (u v : Went) → (v ≡ u → ⊥) → Goes u v v 0
-stands u v ne = (λ e. absurd (ne e), λ _. (refl, refl))
-
--- the tags of all but `Ended`
-abbrev unended : List ℕ
-unended = 0 ∷ 2 ∷ 3 ∷ 4 ∷ []
-
-not_ended : (w : Went) → OneOf unended (tag_of the_type w) → w ≡ Ended → ⊥
-not_ended w k e = miss unended 1 tt (subst (λ (v : Went). OneOf unended (tag_of the_type v)) e k)
-
-pub ends : (w : Went) → (w ≡ Ended → ⊥) → (s : State Folder) → (s.book ≡ end_book w s) × Goes Ended w w 0
-ends w k s = (go w k, stands Ended w k)
-  where
-    go : (w : Went) → (w ≡ Ended → ⊥) → s.book ≡ end_book w s
-    go On k = refl
+    go : (w : Stop) → (w ≡ Ended → ⊥) → s.book ≡ end_book w s
     go Ended k = absurd (k refl)
     go Gone k = refl
-    go Unread k = refl
-    go Unwritten k = refl
+    go (Unread e) k = refl
+    go (Unwritten e) k = refl
 
-pub ends_last
-    : (w v : Went) (n : ℕ) → w ≡ Ended → Told v n → (s : State Folder) → (last_book answering s ≡ end_book w s) × Goes Ended w v n
-ends_last w v n e t s = (rw e refl, prints Ended w v n e t)
+pub ends_last : (w : Stop) → w ≡ Ended → (v : Outcome) (s : State Folder) (t : List ℕ) (a b : Option (List ℕ)) → Writes a b t v
+    → (last_book answering s ≡ end_book w s) × Goes (Err Ended) (Err w) v t a b
+ends_last w e v s t a b q = (rw e refl, prints (Err Ended) (Err w) t a v b (rw e refl) q)

@@ -1,90 +1,88 @@
 -- How the program meets its two ends, standard input and standard output.
 -- Assumes nothing.
---   kind_reason k        the number of a reason of the kind k, as the system would give it: EAGAIN (11), EINTR (4), EPIPE (32), or else 0
---   number_of n k        the system's number n, where there is one; else that of the kind k
---   reason_of e          the number of the reason e why a call fails
---   got_of r             how many bytes a call moves that answers r, or -1 where it fails
---   error_of r           the number of the reason why it fails, or 0 where it does not
---   failure_went e bad   what becomes of the run where a call fails for the system's reason e: EAGAIN (11) and EINTR (4) go on, as the
---                        call is made again, EPIPE (32) says that nobody reads any more, any other reason is `bad`
---   call_went got e empty bad   the same of a call that answers `got` bytes, or less than 0 where it fails; `empty` where it moves none
---   read_went got e      the same of a read: no byte is the end of the input
---   write_went got e     the same of a write, which moves a byte or fails
+--   Outcome              that the run goes on, or why it stops
+--   failure_of k bad     what becomes of the run where a call fails for a reason of the kind k: one that is not ready (EAGAIN) and one
+--                        that a signal interrupts (EINTR) go on with no byte moved, as the call is made again, a broken pipe (EPIPE)
+--                        says that nobody reads any more, any other is `bad`
+--   failure_went e bad   the same of the reason e
+--   call_went r empty bad   how many bytes a call moves that answers r, or why the run stops: `empty` where it moves none, `bad e` where
+--                        it fails for a reason e of no kind above
+--   read_went r          the same of a read: no byte is the end of the input
+--   write_went r         the same of a write, which moves a byte or fails
 --   Told w n             the run went w where n bytes of what it prints are not written: it goes on only where there are none
---   Goes u v w n         the run had gone v, and goes w with n bytes unwritten: where v is u, what that prints is told; else it goes as it
---                        had, and prints nothing
---   end_book w s         the book and papers at the end of a run that went w, from the state s on: only the end of the input answers a
---                        begun line
---   word_of w            what the program says on standard error at its end, before the system's reason; no word where it is quiet
-use Rattle.std.specs.Prelude.{ℕ, zero, suc, ◌<◌, ◌≡◌, ◌||◌, List, [], ℤ, pos, negsuc, eqb, Result, Ok, Err, Option, Some, None}
-use Rattle.std.specs.IoError.{error_kind, raw_os_error}
+--   Writes a b t w       a writer that held a, where that is known, holds b: behind a stands a part of the text t, and the run went w
+--                        where the rest of t is not written
+--   outcome r, moved r   whether the run goes on after a call, and how many bytes that has moved, none where the run stops
+--   Goes u v w t a b     the run had gone v, and goes w: where v is u, the text t is what that prints, as `Writes` says; else it goes as
+--                        it had, and prints nothing
+--   end_book w s         the book and papers at the end of a run that stopped for w, from the state s on: only the end of the input
+--                        answers a begun line
+--   word_of w            what the program says on standard error at its end, before the reason; no word where it is quiet
+use Rattle.std.specs.Prelude.{ℕ, zero, suc, ◌<◌, ◌≤◌, ◌-◌, ◌≡◌, List, [], length, take, Result, Ok, Err, Option, Some, None}
+use Rattle.std.specs.IoError.{error_kind}
+use Rattle.std.specs.Io.KnownBytes.{Appends, Keeps}
 use Rattle.std.specs.declared.io.Error.{Error}
 use Rattle.std.specs.declared.io.ErrorKind.{ErrorKind}
 use Rattle.std.specs.declared.io.ErrorKind.TheVariants.{WouldBlock, Interrupted, BrokenPipe}
-use Rattle.tools.specs.Tests.{pick}
 use Rattle.text.specs.Words.{ascii}
 use Rattle.text.specs.Stream.{State, last_book}
 use Rattle.office.specs.Office.{Folder}
 use Rattle.answering.specs.Answering.{answering}
-use Rattle.ends.specs.declared.Went.{Went}
-use Rattle.ends.specs.declared.Went.TheVariants.{On, Ended, Gone, Unread, Unwritten}
+use Rattle.ends.specs.declared.Stop.{Stop}
+use Rattle.ends.specs.declared.Stop.TheVariants.{Ended, Gone, Unread, Unwritten}
 
-abbrev kind_reason : ErrorKind → ℤ
-kind_reason WouldBlock = pos 11
-kind_reason Interrupted = pos 4
-kind_reason BrokenPipe = pos 32
-kind_reason _ = pos 0
+abbrev pub Outcome : Type 0
+Outcome = Result (Unit {0}) Stop
 
-abbrev number_of : Option ℤ → ErrorKind → ℤ
-number_of (Some code) k = code
-number_of None k = kind_reason k
+abbrev pub failure_of : ErrorKind → Stop → Result ℕ Stop
+failure_of WouldBlock bad = Ok 0
+failure_of Interrupted bad = Ok 0
+failure_of BrokenPipe bad = Err Gone
+failure_of _ bad = Err bad
 
-abbrev pub reason_of : Error → ℤ
-reason_of e = number_of (raw_os_error e) (error_kind e)
+abbrev pub failure_went : Error → Stop → Result ℕ Stop
+failure_went e bad = failure_of (error_kind e) bad
 
-abbrev pub got_of : Result ℕ Error → ℤ
-got_of (Ok n) = pos n
-got_of (Err e) = negsuc 0
+abbrev pub call_went : Result ℕ Error → Stop → (Error → Stop) → Result ℕ Stop
+call_went (Ok zero) empty bad = Err empty
+call_went (Ok (suc n)) empty bad = Ok (suc n)
+call_went (Err e) empty bad = failure_went e (bad e)
 
-abbrev pub error_of : Result ℕ Error → ℤ
-error_of (Ok n) = pos 0
-error_of (Err e) = reason_of e
+abbrev pub read_went : Result ℕ Error → Result ℕ Stop
+read_went r = call_went r Ended (λ e. Unread (Some e))
 
-unfoldable pub failure_went : ℤ → Went → Went
-failure_went (pos e) bad = pick (eqb e 11 || eqb e 4) On (pick (eqb e 32) Gone bad)
-failure_went (negsuc e) bad = bad
+abbrev pub write_went : Result ℕ Error → Result ℕ Stop
+write_went r = call_went r (Unwritten None) (λ e. Unwritten (Some e))
 
-unfoldable pub call_went : ℤ → ℤ → Went → Went → Went
-call_went (pos zero) e empty bad = empty
-call_went (pos (suc n)) e empty bad = On
-call_went (negsuc n) e empty bad = failure_went e bad
+abbrev pub Told : Outcome → ℕ → Type 0
+Told (Ok u) n = n ≡ 0
+Told (Err Ended) n = ⊥
+Told (Err Gone) n = 0 < n
+Told (Err (Unread e)) n = ⊥
+Told (Err (Unwritten e)) n = 0 < n
 
-unfoldable pub read_went : ℤ → ℤ → Went
-read_went got e = call_went got e Ended Unread
+abbrev pub Writes : Option (List ℕ) → Option (List ℕ) → List ℕ → Outcome → Type 0
+Writes a b t w = (k : ℕ) × Appends a b (take k t) × (k ≤ length t) × Told w (length t - k)
 
-unfoldable pub write_went : ℤ → ℤ → Went
-write_went got e = call_went got e Unwritten Unwritten
+abbrev pub outcome : Result ℕ Stop → Outcome
+outcome (Ok n) = Ok tt
+outcome (Err w) = Err w
 
-abbrev pub Told : Went → ℕ → Type 0
-Told On n = n ≡ 0
-Told Ended n = ⊥
-Told Gone n = 0 < n
-Told Unread n = ⊥
-Told Unwritten n = 0 < n
+abbrev pub moved : Result ℕ Stop → ℕ
+moved (Ok n) = n
+moved (Err w) = 0
 
-abbrev pub Goes : Went → Went → Went → ℕ → Type 0
-Goes u v w n = (v ≡ u → Told w n) × ((v ≡ u → ⊥) → (w ≡ v) × (n ≡ 0))
+abbrev pub Goes : Outcome → Outcome → Outcome → List ℕ → Option (List ℕ) → Option (List ℕ) → Type 0
+Goes u v w t a b = (v ≡ u → Writes a b t w) × ((v ≡ u → ⊥) → (w ≡ v) × Keeps a b)
 
-abbrev pub end_book : Went → State Folder → Folder
-end_book On s = s.book
+abbrev pub end_book : Stop → State Folder → Folder
 end_book Ended s = last_book answering s
 end_book Gone s = s.book
-end_book Unread s = s.book
-end_book Unwritten s = s.book
+end_book (Unread e) s = s.book
+end_book (Unwritten e) s = s.book
 
-abbrev pub word_of : Went → List ℕ
-word_of On = []
+abbrev pub word_of : Stop → List ℕ
 word_of Ended = []
 word_of Gone = []
-word_of Unread = ascii "desks: standard input"
-word_of Unwritten = ascii "desks: standard output"
+word_of (Unread e) = ascii "desks: standard input"
+word_of (Unwritten e) = ascii "desks: standard output"

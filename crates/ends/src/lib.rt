@@ -2,129 +2,69 @@
 
 #![tactic(auto)]
 
-ghost use Rattle.std.specs.Prelude.{◌≡◌, ◌<◌, ◌≤◌, ◌^◌, length, IfOk};
-ghost use Rattle.text.specs.Put.{Wrote};
-ghost use Rattle.ends.specs.Ends.{failure_went, call_went, read_went, write_went, word_of, got_of, error_of, reason_of};
+ghost use Rattle.std.specs.Prelude.{◌≡◌};
+ghost use Rattle.ends.specs.Ends.{failure_went, read_went, write_went, word_of};
 
 use std::io;
-use std::io::ErrorKind;
+use std::io::{Error, ErrorKind};
 
-// What became of the run: it goes on; the input has ended; nobody reads the output any more; or an end has failed.
+// Why the run stops: the input has ended; nobody reads the output any more; or an end has failed, for a reason of the system's if it
+// has one.
 #[derive(Clone, Copy)]
-pub enum Went {
-    On,
+pub enum Stop {
     Ended,
     Gone,
-    Unread,
-    Unwritten,
+    Unread(Option<Error>),
+    Unwritten(Option<Error>),
 }
 
-// The system's reasons that a call may fail for, by their numbers: the end is not ready, a signal came first, nobody reads.
-const EAGAIN: i32 = 11;
-
-const EINTR: i32 = 4;
-
-const EPIPE: i32 = 32;
-
-// What a call that moves bytes has answered: how many it moved, or less than 0 where it failed, and then the system's reason.
-#[derive(Clone, Copy)]
-pub struct Call {
-    pub got: isize,
-    pub error: i32,
-}
-
-// The number of the reason why a call has failed. An error that is not the system's goes by its kind, and may have none.
-fn reason(e: io::Error) -> i32
-    ensures { result ≡ reason_of e }
+// What becomes of the run where a call fails: it is made again, no byte moved, or the run stops. Other programs run while an end is
+// not ready.
+fn failure_went(e: Error, bad: Stop) -> Result<usize, Stop>
+    ensures { result ≡ failure_went e bad }
 {
-    if let Some(code) = e.raw_os_error() {
-        return code;
-    }
     match e.kind() {
-        ErrorKind::WouldBlock => EAGAIN,
-        ErrorKind::Interrupted => EINTR,
-        ErrorKind::BrokenPipe => EPIPE,
-        _ => 0,
+        ErrorKind::WouldBlock => {
+            std::thread::yield_now();
+            Ok(0)
+        }
+        ErrorKind::Interrupted => Ok(0),
+        ErrorKind::BrokenPipe => Err(Stop::Gone),
+        _ => Err(bad),
     }
 }
 
-// What a read or a write has answered, as numbers.
-pub fn called(done: io::Result<usize>) -> Call
-    requires { IfOk done (λ n. n < 2 ^ 63) }
-    ensures got { result.got ≡ got_of done }
-    ensures error { result.error ≡ error_of done }
+// How many bytes a read has moved, or why the run stops at it: no byte is the end of the input.
+pub fn read_went(done: io::Result<usize>) -> Result<usize, Stop>
+    ensures { result ≡ read_went done }
 {
     match done {
-        Ok(n) => Call {
-            got: n as isize,
-            error: 0,
-        },
-        Err(e) => Call {
-            got: -1,
-            error: reason(e),
-        },
+        Ok(0) => Err(Stop::Ended),
+        Ok(n) => Ok(n),
+        Err(e) => failure_went(e, Stop::Unread(Some(e))),
     }
 }
 
-// Lets other programs run while an end is not ready.
-fn pause() {
-    std::thread::yield_now();
-}
-
-// What becomes of the run where a call fails for the system's reason.
-fn failure_went(error: i32, bad: Went) -> Went
-    ensures { result ≡ failure_went error bad }
+// The same of a write, which moves a byte or fails. One that moves none has no reason. Written out: a function of both would be lent
+// the two ways to stop, and be no shorter.
+pub fn write_went(done: io::Result<usize>) -> Result<usize, Stop>
+    ensures { result ≡ write_went done }
 {
-    if error == EAGAIN {
-        pause();
-        return Went::On;
+    match done {
+        Ok(0) => Err(Stop::Unwritten(None)),
+        Ok(n) => Ok(n),
+        Err(e) => failure_went(e, Stop::Unwritten(Some(e))),
     }
-    if error == EINTR {
-        return Went::On;
-    }
-    if error == EPIPE {
-        return Went::Gone;
-    }
-    bad
 }
 
-// The same of a call that moves bytes.
-fn call_went(got: isize, error: i32, none: Went, bad: Went) -> Went
-    ensures { result ≡ call_went got error none bad }
+// What the program says at its end, before the reason.
+pub fn word(stop: Stop) -> &'static [u8]
+    ensures { result.now ≡ word_of stop }
 {
-    if got < 0 {
-        return failure_went(error, bad);
-    }
-    if got == 0 {
-        return none;
-    }
-    Went::On
-}
-
-// The same of a read: no byte is the end of the input.
-pub fn read_went(got: isize, error: i32) -> Went
-    ensures { result ≡ read_went got error }
-{
-    call_went(got, error, Went::Ended, Went::Unread)
-}
-
-// The same of a write, which moves a byte or fails.
-pub fn write_went(got: isize, error: i32) -> Went
-    ensures { result ≡ write_went got error }
-{
-    call_went(got, error, Went::Unwritten, Went::Unwritten)
-}
-
-// What the program says at its end.
-pub fn word(out: &mut [u8], w: Went) -> usize
-    requires { 22 ≤ length out.old }
-    ensures { Wrote out.old 0 (word_of w) out.new result }
-{
-    match w {
-        Went::On => 0,
-        Went::Ended => 0,
-        Went::Gone => 0,
-        Went::Unread => text::put_text(out, 0, b"desks: standard input"),
-        Went::Unwritten => text::put_text(out, 0, b"desks: standard output"),
+    match stop {
+        Stop::Ended => b"",
+        Stop::Gone => b"",
+        Stop::Unread(_) => b"desks: standard input",
+        Stop::Unwritten(_) => b"desks: standard output",
     }
 }

@@ -1,27 +1,27 @@
 -- A fresh book, record by record.
 -- Assumes nothing.
-use Prim.Native.Nat.{ℕ, ◌+◌, ◌%◌, ◌<◌, ◌≤◌}
+use Prim.Native.Nat.{ℕ, ◌+◌, ◌*◌, ◌%◌, ◌<◌, ◌≤◌}
 use mathlib.Core.Path.{◌≡◌, refl, sym, ap, ◌∙◌}
 use mathlib.Core.Bool.{Bool, true, false}
-use mathlib.Core.List.{List, []}
+use mathlib.Core.List.{List, [], ◌++◌}
 use mathlib.Core.Logic.{⊎_elim}
 use native.Mathlib.Omega.{arith}
 use borrow.Author.Tests.{lt-ltb}
 use borrow.Author.Count.{below_more}
 use lib.Dec.{ltb, eqb}
-use lib.ListN.{length, set, length-set}
-use lib.Seq.{get_or-set_same, get_or-set_other}
+use lib.ListN.{length, set, drop, length-set, length-append, length-drop, get_or-append}
+use lib.Seq.{get_or-set_same, get_or-set_other, get_or-append-add, get_or-drop}
 use Rattle.tools.specs.Tests.{pick}
 use Rattle.tools.specs.Lists.{byte, tab, Filled}
 use Rattle.tools.proofs.Tests.{each, lt_or_le}
-use Rattle.tools.proofs.Lists.{tab_at}
+use Rattle.tools.proofs.Lists.{length_tab, tab_at}
 use Rattle.rules.specs.Setups.{Setup, setup_with, limit, in_range, permits}
 use Rattle.rules.specs.declared.SetupNumbers.{SetupNumbers}
 use Rattle.rules.specs.Model.{zeros, fresh}
 use Rattle.rules.specs.Calls.{fresh_book}
 use Rattle.rules.specs.Replies.{row_byte}
 use Rattle.rules.proofs.Setups.{Permitted, permitted}
-use Rattle.book.specs.Layout.{head_size, row_spot, tag_a_spot, tag_b_spot}
+use Rattle.book.specs.Layout.{head_size, record_size, row_spot, tag_a_spot, tag_b_spot}
 use Rattle.book.specs.Layout.{book_size, records, shelf_from, Record, spot, head_byte, mark0, mark1, record_byte}
 use Rattle.book.specs.Codec.{record_of, write, encode}
 use Rattle.book.proofs.Bytes.{record_bytes, layout_is}
@@ -60,16 +60,26 @@ zero_byte c = go (eqb (c % 2) 0)
     go false = refl
 
 -- the header, and zeros behind it
-pub written_head : (X : Setup) (b head : List ℕ) → head ≡ tab 0 head_size (head_byte X) → Filled book_size head_size (byte head) b
-    → ((t : ℕ) → head_size ≤ t → t < book_size → byte b t ≡ 0) → Written X 0 0 b
-written_head X b head e h z =
+pub written_head : (X : Setup) (b head : List ℕ) → head ≡ tab 0 head_size (head_byte X) → Filled book_size book_size (λ i. 0) b
+    → Written X 0 0 (head ++ drop head_size b)
+written_head X b head e h =
     record {
-      size = h.size;
-      head = λ i l. sym (h.at i l ∙ ap (λ (x : List ℕ). byte x i) e ∙ tab_at head_size (head_byte X) i l);
+      size = length-append head (drop head_size b) ∙ omega (arith, long, length-drop head_size b, h.size);
+      head =
+          λ i l.
+          sym (get_or-append head (drop head_size b) 0 i (omega (arith, long)) ∙ ap (λ (x : List ℕ). byte x i) e
+          ∙ tab_at head_size (head_byte X) i l);
       marks = λ k l. absurd (omega arith);
       limits = λ j l. absurd (omega arith);
-      rest = λ k c l m o z0. sym (z (spot k c) (omega arith) (omega arith));
+      rest =
+          λ k c l m o z.
+          let i : spot k c ≡ length head + (record_size * k + c) = omega (arith, long) in
+          sym (ap (byte (head ++ drop head_size b)) i ∙ get_or-append-add head (drop head_size b) (record_size * k + c) 0
+          ∙ get_or-drop head_size b (record_size * k + c) 0 ∙ h.at (head_size + (record_size * k + c)) (omega arith));
     }
+  where
+    long : length head ≡ head_size
+    long = ap (λ (x : List ℕ). length x) e ∙ length_tab 0 head_size (head_byte X)
 
 -- the mark of one record more
 module _ (X : Setup) (n : ℕ) (b : List ℕ) (h : Written X n 0 b) (l : n < records) where

@@ -2,17 +2,19 @@
 
 #![tactic(auto)]
 
-ghost use Rattle.std.specs.Prelude.{◌≡◌, true, List, [], ℕ, ◌≤◌, length};
+ghost use Rattle.std.specs.Prelude.{◌≡◌, true, List, [], ℕ, ◌≤◌};
 ghost use Rattle.tools.specs.Lists.{tab, Filled};
-ghost use Rattle.rules.specs.Setups.{setup_with, in_range, permits};
+ghost use Rattle.rules.specs.Setups.{setup_with, setup_in, in_range, permits};
 ghost use Rattle.rules.specs.Calls.{fresh_book};
 ghost use Rattle.book.specs.Layout.{book_size, records, head_size, head_byte};
 ghost use Rattle.book.specs.Codec.{encode};
 ghost use Rattle.fresh.specs.Written.{Written, Marks, Limited, Small};
 
-use rules::SetupNumbers;
+use parts::BookBytes;
+use rules::{GivenSetup, SetupNumbers};
 
 // The header has the numbers, whatever the limits.
+#[tactic(auto, unfolding(tools::specs::Lists::tab, book::specs::Layout::head_byte))]
 fn head_of(s: SetupNumbers) -> [u8; 16]
     requires { in_range (setup_with s []) ≡ true }
     ensures { result ≡ tab 0 head_size (head_byte (setup_with s [])) }
@@ -37,66 +39,50 @@ fn head_of(s: SetupNumbers) -> [u8; 16]
     ]
 }
 
-// A loop that does nothing else: the compiler makes one fill of it.
-fn write_zeros(book: &mut [u8])
-    requires { length book.old ≡ book_size }
+// One sweep that does nothing else.
+fn write_zeros(book: &mut BookBytes)
     ensures { Filled book_size book_size (λ i. 0) book.new }
 {
-    let mut i: usize = 0;
-    while i < parts::BOOK_BYTES {
-        book[i] = 0;
-        i += 1;
-    }
+    book.fill(0);
 }
 
-fn write_head(book: &mut [u8], s: SetupNumbers)
+fn write_head(book: &mut BookBytes, s: SetupNumbers)
     requires filled { Filled book_size book_size (λ i. 0) book.old }
     requires s_value { in_range (setup_with s []) ≡ true }
     ensures { (l : List ℕ) → Written (setup_with s l) 0 0 book.new }
 {
-    let head = head_of(s);
-    let mut i: usize = 0;
-    while i < parts::HEAD_BYTES {
-        book[i] = head[i];
-        i += 1;
-    }
+    book[..parts::HEAD_BYTES].copy_from_slice(&head_of(s));
 }
 
-fn write_marks(book: &mut [u8], from: usize, to: usize)
-    requires book_len { length book.old ≡ book_size }
-    requires from_le_to { (from ≤ to) × (to ≤ records) }
+fn write_marks(book: &mut BookBytes, from: usize, to: usize)
+    requires { (from ≤ to) × (to ≤ records) }
     ensures { Marks from to book.old book.new }
 {
-    let mut k: usize = from;
-    while k < to {
-        book[parts::spot(k, 0)] = parts::first_mark(k);
-        book[parts::spot(k, 1)] = parts::second_mark(k);
-        k += 1;
+    for k in from..to {
+        let mark = parts::mark(k);
+        book[parts::spot(k, 0)] = mark[0];
+        book[parts::spot(k, 1)] = mark[1];
     }
 }
 
-fn write_limits(book: &mut [u8], limits: &[usize])
-    requires book_len { length book.old ≡ book_size }
-    requires small { Small limits.now }
+fn write_limits(book: &mut BookBytes, limits: &[usize])
+    requires { Small limits.now }
     ensures { Limited limits.now book.old book.new }
 {
-    let mut j: usize = 0;
-    while j < limits.len() {
-        book[parts::spot(j, parts::TAG_B)] = limits[j] as u8;
-        j += 1;
+    for (j, limit) in limits.iter().enumerate() {
+        book[parts::spot(j, parts::TAG_B)] = *limit as u8;
     }
 }
 
 // Zeros in one sweep, and the marks one kind of record after the other: so a mark is a constant, and no record asks which it has.
-pub fn write_fresh(book: &mut [u8], s: SetupNumbers, limits: &[usize])
-    requires book_len { length book.old ≡ book_size }
-    requires limits_value { permits (setup_with s limits.now) ≡ true }
-    ensures { book.new ≡ encode (fresh_book (setup_with s limits.now)) }
+pub fn write_fresh(book: &mut BookBytes, setup: GivenSetup<'_>)
+    requires { permits (setup_in setup) ≡ true }
+    ensures { book.new ≡ encode (fresh_book (setup_in setup.entry)) }
 {
     write_zeros(book);
-    write_head(book, s);
+    write_head(book, setup.numbers);
     write_marks(book, 0, parts::MAIL);
     write_marks(book, parts::MAIL, parts::SHELF);
     write_marks(book, parts::SHELF, parts::RECORDS);
-    write_limits(book, limits);
+    write_limits(book, setup.limits);
 }

@@ -10,13 +10,16 @@ use lib.Dec.{ltb}
 use Rattle.tools.specs.Tests.{pick}
 use Rattle.tools.specs.Reasons.{Reason, first, if_done, rises}
 use Rattle.tools.proofs.Tests.{and_true_l, and_true_r}
-use Rattle.rules.specs.Model.{Act, Answer, refusal, slot_for}
+use Rattle.rules.specs.Model.{Act, Answer, slot_for}
 use Rattle.rules.specs.Calls.{Call, on, alters}
 use Rattle.book.specs.Answers.{answer_to}
 use Rattle.book.specs.Numbers.{tables_of}
 use Rattle.book.proofs.Numbers.{done_on}
-use Rattle.refusals.specs.declared.Grant.{Grant}
-use Rattle.refusals.specs.Grants.{grant_of}
+use Rattle.std.specs.Prelude.{Result}
+use Rattle.std.specs.Prelude as Std
+use Rattle.rules.specs.declared.Refusal.{Refusal}
+use Rattle.rules.specs.Replies.{number_in, done_says}
+use Rattle.refusals.specs.Grants.{granted_by, grant_of}
 use Rattle.office.specs.Papers.{asked, papers_number}
 use Rattle.office.specs.Office.{Folder, summary_at, papers_at, office_answer, folder_after}
 use Rattle.office.proofs.Papers.{together_which}
@@ -56,8 +59,9 @@ module _ (f : Folder) (c : Call) where
 
 -- an event: the number that it is granted, and the slot that it is answered
 module _ (c : Act) (f : Folder) (q : Bool) where
-  pub granted_filed : (g : Grant) → g ≡ grant_of f.book c q → or_no_room g.number ≡ or_no_room (office_answer f (on c)).number
-  granted_filed g e = granted c f.book q g e ∙ sym (room_first f (on c))
+  pub granted_filed : (n : ℕ) (g : Result (Std.Option ℕ) Refusal) → n ≡ number_in g → granted_by g ≡ grant_of f.book c q
+      → or_no_room n ≡ or_no_room (office_answer f (on c)).number
+  granted_filed n g e h = granted c f.book q n g e h ∙ sym (room_first f (on c))
 
   pub slot_filed : (done_on f.book c).answer.value.slot ≡ slot_for (tables_of f.book) q
       → (office_answer f (on c)).number ≡ 0 → (office_answer f (on c)).value.slot ≡ slot_for (tables_of f.book) q
@@ -66,5 +70,6 @@ module _ (c : Act) (f : Folder) (q : Bool) where
       ap (λ (a : Answer). a.value.slot) e ∙ slot_said c f.book q v (ap (λ (a : Answer). a.number) (sym e) ∙ z)
 
 -- no buffer is lent: start, drop and discard
-pub filed : (f : Folder) (c : Call) (r : ℕ) → refusal r ≡ office_answer f c → (f' : Folder) → f' ≡ folder_after f c → Files c f f' [] r
-filed f c r e f' h = bare (office_answer f c) f (folder_after f c) r e f' h
+pub filed : (f : Folder) (c : Call) (g : Result (Unit {0}) Refusal) → done_says g ≡ office_answer f c → (r : ℕ) → r ≡ number_in g
+    → (f' : Folder) → f' ≡ folder_after f c → Files c f f' [] r
+filed f c g e r k f' h = bare (office_answer f c) f (folder_after f c) r g e k f' h

@@ -1,5 +1,6 @@
 // The C interface (docs/RULES.md): every call over byte slices and numbers. Each answers its number and writes its value into a
-// buffer that the caller lends; a buffer too short for it is NoRoom, and then nothing changes. gulambitok_c exports them.
+// buffer that the caller lends; a buffer too short for it is NoRoom, and then nothing changes. gulambitok_c exports them. So each has
+// numbers for C, and stands by itself, however like another.
 
 #![tactic(auto)]
 
@@ -29,11 +30,8 @@ pub fn gulambitok_start(
     ensures { Makes (Calls.start (setup_with (numbers_by desks phases seat_lag shelf_lag back ahead) limits.now))
         book.old book.new [] result }
 {
-    portal::start(
-        book,
-        door::numbers_by(desks, phases, seat_lag, shelf_lag, back, ahead),
-        limits,
-    )
+    let given = door::setup_by(desks, phases, limits, seat_lag, shelf_lag, back, ahead);
+    door::number(&portal::start(book, given))
 }
 
 // Local: the desk's own clock grows by 1. Where keep is not 0 its stamp is kept, as that of each event.
@@ -51,7 +49,7 @@ pub fn gulambitok_local(
     let wish = keep != 0;
     if door::slot_short(wish, slot.len()) | (stamp.len() < parts::RECORD_BYTES) {
         let grant = refusals::local_grant(&book[..], desk, wish);
-        return door::number_by(true, grant.number);
+        return door::number_by(true, door::number(&grant));
     }
     let desks = portal::desks_in(&book[..]);
     let stamped = portal::local(book, desk, wish);
@@ -77,7 +75,7 @@ pub fn gulambitok_receive(
         | (stamp.len() < parts::RECORD_BYTES)
     {
         let grant = refusals::receive_grant(&book[..], desk, place, wish);
-        return door::number_by(true, grant.number);
+        return door::number_by(true, door::number(&grant));
     }
     let desks = portal::desks_in(&book[..]);
     let received = portal::receive(book, desk, place, wish);
@@ -99,7 +97,7 @@ pub fn gulambitok_reset(
     let wish = keep != 0;
     if door::slot_short(wish, slot.len()) | (stamp.len() < parts::RECORD_BYTES) {
         let grant = refusals::reset_grant(&book[..], desk, wish);
-        return door::number_by(true, grant.number);
+        return door::number_by(true, door::number(&grant));
     }
     let desks = portal::desks_in(&book[..]);
     let stamped = portal::reset(book, desk, wish);
@@ -125,7 +123,7 @@ pub fn gulambitok_send(
         | (stamp.len() < parts::RECORD_BYTES)
     {
         let grant = refusals::send_grant(&book[..], desk, to, wish);
-        return door::number_by(true, grant.number);
+        return door::number_by(true, door::number(&grant));
     }
     let desks = portal::desks_in(&book[..]);
     let sent = portal::send(book, desk, to, wish);
@@ -136,14 +134,14 @@ pub fn gulambitok_send(
 pub fn gulambitok_drop(book: &mut [u8], slot: usize) -> u8
     ensures { Makes (on (Model.drop slot)) book.old book.new [] result }
 {
-    portal::drop(book, slot)
+    door::number(&portal::drop(book, slot))
 }
 
 // Discard frees a mail place.
 pub fn gulambitok_discard(book: &mut [u8], place: usize) -> u8
     ensures { Makes (on (Model.discard place)) book.old book.new [] result }
 {
-    portal::discard(book, place)
+    door::number(&portal::discard(book, place))
 }
 
 // Before, of two slots: 1 for yes, 0 for no.
@@ -175,15 +173,15 @@ pub fn gulambitok_show(book: &[u8], slot: usize, row: &mut [u8]) -> u8
     ensures { Gives (answer_to book.now (on (Model.show slot)))
         (row_to row.old row.new ∷ []) result }
 {
-    let n = refusals::show_number(book, slot);
+    let n = door::number(&refusals::show_check(book, slot));
     if row.len() < parts::ROW_BYTES {
         return door::number_by(true, n);
     }
-    if n != rules::DONE {
+    if n != door::DONE {
         return n;
     }
     parts::lend(row, asking::row_part(book, slot));
-    rules::DONE
+    door::DONE
 }
 
 // Write fills the first 20 bytes with the stamp record of a slot, and no more.
@@ -191,7 +189,7 @@ pub fn gulambitok_write(book: &[u8], slot: usize, target: &mut [u8]) -> u8
     ensures value { result ≡ (answer_to book.now (on (Model.write slot (length target.old)))).number }
     ensures target_after { target.new ≡ target_after book.now slot target.old }
 {
-    portal::write(book, slot, target)
+    door::number(&portal::write(book, slot, target))
 }
 
 // Before, of two stamp records: 1 for yes, 0 for no.
@@ -211,8 +209,8 @@ pub fn gulambitok_label_before(
         (before_of (setup_with (numbers_by desks phases seat_lag shelf_lag back ahead) limits.now) first.now second.now)
         (byte_to answer.old answer.new ∷ []) result }
 {
-    let s = door::numbers_by(desks, phases, seat_lag, shelf_lag, back, ahead);
-    door::give_told(answer, labels::before(s, limits, first, second))
+    let setup = door::setup_by(desks, phases, limits, seat_lag, shelf_lag, back, ahead);
+    door::give_told(answer, labels::before(setup, first, second))
 }
 
 // Compare, of two stamp records: 1 before, 2 after, 3 same, 4 concurrent, 5 crossed.
@@ -232,8 +230,8 @@ pub fn gulambitok_label_compare(
         (compare_of (setup_with (numbers_by desks phases seat_lag shelf_lag back ahead) limits.now) first.now second.now)
         (byte_to answer.old answer.new ∷ []) result }
 {
-    let s = door::numbers_by(desks, phases, seat_lag, shelf_lag, back, ahead);
-    door::give_relation(answer, labels::compare(s, limits, first, second))
+    let setup = door::setup_by(desks, phases, limits, seat_lag, shelf_lag, back, ahead);
+    door::give_relation(answer, labels::compare(setup, first, second))
 }
 
 // Newest of two stamp records: 1 the first, 2 the second, 0 neither.
@@ -253,6 +251,6 @@ pub fn gulambitok_label_newest(
         (compare_of (setup_with (numbers_by desks phases seat_lag shelf_lag back ahead) limits.now) first.now second.now)
         (which_to answer.old answer.new ∷ []) result }
 {
-    let s = door::numbers_by(desks, phases, seat_lag, shelf_lag, back, ahead);
-    door::give_newest(answer, labels::compare(s, limits, first, second))
+    let setup = door::setup_by(desks, phases, limits, seat_lag, shelf_lag, back, ahead);
+    door::give_newest(answer, labels::compare(setup, first, second))
 }

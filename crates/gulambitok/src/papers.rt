@@ -25,12 +25,8 @@ pub fn gulambitok_office_start(
     ensures { Files (Calls.start (setup_with (numbers_by desks phases seat_lag shelf_lag back ahead) limits.now))
         (folder book.old summary.old) (folder book.new summary.new) [] result }
 {
-    office::start(
-        book,
-        summary,
-        door::numbers_by(desks, phases, seat_lag, shelf_lag, back, ahead),
-        limits,
-    )
+    let given = door::setup_by(desks, phases, limits, seat_lag, shelf_lag, back, ahead);
+    door::number(&office::start(book, summary, given))
 }
 
 // Local, with the papers beside the book.
@@ -50,7 +46,7 @@ pub fn gulambitok_office_local(
     let wish = keep != 0;
     if door::slot_short(wish, slot.len()) | (stamp.len() < parts::RECORD_BYTES) {
         let grant = refusals::local_grant(&book[..], desk, wish);
-        return door::number_by(true, grant.number);
+        return door::number_by(true, door::number(&grant));
     }
     let desks = portal::desks_in(&book[..]);
     let stamped = office::local(book, summary, desk, wish);
@@ -78,7 +74,7 @@ pub fn gulambitok_office_send(
         | (stamp.len() < parts::RECORD_BYTES)
     {
         let grant = refusals::send_grant(&book[..], desk, to, wish);
-        return door::number_by(true, grant.number);
+        return door::number_by(true, door::number(&grant));
     }
     let desks = portal::desks_in(&book[..]);
     let sent = office::send(book, summary, desk, to, wish);
@@ -106,7 +102,7 @@ pub fn gulambitok_office_receive(
         | (stamp.len() < parts::RECORD_BYTES)
     {
         let grant = refusals::receive_grant(&book[..], desk, place, wish);
-        return door::number_by(true, grant.number);
+        return door::number_by(true, door::number(&grant));
     }
     let desks = portal::desks_in(&book[..]);
     let received = office::receive(book, summary, desk, place, wish);
@@ -130,7 +126,7 @@ pub fn gulambitok_office_reset(
     let wish = keep != 0;
     if door::slot_short(wish, slot.len()) | (stamp.len() < parts::RECORD_BYTES) {
         let grant = refusals::reset_grant(&book[..], desk, wish);
-        return door::number_by(true, grant.number);
+        return door::number_by(true, door::number(&grant));
     }
     let desks = portal::desks_in(&book[..]);
     let stamped = office::reset(book, summary, desk, wish);
@@ -142,7 +138,7 @@ pub fn gulambitok_office_drop(book: &mut [u8], summary: &mut [u8], slot: usize) 
     ensures { Files (on (Model.drop slot))
         (folder book.old summary.old) (folder book.new summary.new) [] result }
 {
-    office::drop(book, summary, slot)
+    door::number(&office::drop(book, summary, slot))
 }
 
 // Discard, with the papers beside the book.
@@ -150,7 +146,7 @@ pub fn gulambitok_office_discard(book: &mut [u8], summary: &mut [u8], place: usi
     ensures { Files (on (Model.discard place))
         (folder book.old summary.old) (folder book.new summary.new) [] result }
 {
-    office::discard(book, summary, place)
+    door::number(&office::discard(book, summary, place))
 }
 
 // May: the number that a reset at a desk would be answered, by a setup and a summary alone; 0 for yes.
@@ -170,6 +166,6 @@ pub fn gulambitok_may(
         (may_of (setup_with (numbers_by desks phases seat_lag shelf_lag back ahead) limits.now) summary.now desk)
         (foretold_to answer.old answer.new ∷ []) result }
 {
-    let s = door::numbers_by(desks, phases, seat_lag, shelf_lag, back, ahead);
-    door::give_foretold(answer, summary::may(s, limits, summary, desk))
+    let setup = door::setup_by(desks, phases, limits, seat_lag, shelf_lag, back, ahead);
+    door::give_foretold(answer, summary::may(setup, summary, desk))
 }

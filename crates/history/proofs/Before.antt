@@ -15,7 +15,8 @@ use Rattle.rules.proofs.Reach.{near_in, in_near}
 use Rattle.rules.specs.Setups.{Setup}
 use Rattle.tools.specs.Tests.{pick}
 use Rattle.rules.specs.declared.Relation.TheVariants.{Before, After, Same, Concurrent, Crossed}
-use Rattle.rules.specs.Model.{Held, Tables, before, compare, says, relates, step, done, reach_back, near, is_out, gap_in, gap, same_by, is_before}
+use Rattle.rules.specs.Model.{Held, Tables, before, compare, says, relates, step, done, reach_back, near, is_out, gap_in}
+use Rattle.rules.specs.Model.{gap, same_by, is_before}
 use Rattle.rules.specs.Model.{relation, settle, telling, ask_reasons, reasons, ask_tells}
 use Rattle.history.specs.History.{Log, History, Leads}
 use Rattle.history.specs.Demand.{InReach, BeforeIs, CompareIs, Stands}

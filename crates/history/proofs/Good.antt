@@ -18,7 +18,8 @@ use Rattle.tools.specs.Tables.{put, Each}
 use Rattle.rules.specs.Model.{Row, Seat, Held, Tables, Act, local, reset, send, receive, drop, discard, ask}
 use Rattle.rules.specs.Model.{step, done, why, fresh, zeros, grown, taken, merged, turned, seated, free_mail, slot_for, row_in, used}
 use Rattle.rules.specs.Model.{own, tick, turn, settle}
-use Rattle.history.specs.History.{Kind, cause, is_reset, Local, Send, Reset, Receive, Log, History, desk_link, one, more, logged, noted, none_yet}
+use Rattle.history.specs.History.{Kind, cause, is_reset, Local, Send, Reset, Receive, Log, History, desk_link, one, more}
+use Rattle.history.specs.History.{logged, noted, none_yet}
 use Rattle.history.specs.History.{adds}
 use Rattle.tools.proofs.Tables.{put_all, put_both, put_at_both, put_same, put_other, Each-map, Each-all, none_some}
 use Rattle.history.proofs.Keys.{key, later_key, tick_key, turn_key}

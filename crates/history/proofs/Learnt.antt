@@ -15,7 +15,8 @@ use Rattle.tools.proofs.Tables.{put_same, some_is}
 use Rattle.ring.specs.Phases.{ring, line, Pair}
 use Rattle.ring.proofs.Ring.{later_takes, later_stays}
 use Rattle.rules.specs.Setups.{Setup}
-use Rattle.rules.specs.Model.{Row, Seat, Tables, Answer, receive, zeros, own, row_in, merged, taken, learns, learnt, why, done, settle, step}
+use Rattle.rules.specs.Model.{Row, Seat, Tables, Answer, receive, zeros, own, row_in, merged, taken, learns, learnt, why}
+use Rattle.rules.specs.Model.{done, settle, step}
 use Rattle.rules.specs.Calls.{on, ring_of, line_of, call}
 use Rattle.rules.proofs.Setups.{Permitted}
 use Rattle.rules.proofs.Accepted.{no_receive}

@@ -14,10 +14,13 @@ use Rattle.ring.specs.Phases.{Phases, Pair, is_later}
 use Rattle.rules.specs.Setups.{Setup}
 use Rattle.tools.specs.Tests.{pick, any}
 use Rattle.tools.specs.Tables.{put, put_at}
-use Rattle.rules.specs.Model.{Row, Seat, Held, Tables, Question, ask_before, ask_compare, ask_picture, ask_show, ask_write, Act, local, reset, send, receive, drop, discard, ask}
+use Rattle.rules.specs.Model.{Row, Seat, Held, Tables, Question, ask_before, ask_compare, ask_picture, ask_show, ask_write}
+use Rattle.rules.specs.Model.{Act, local, reset, send, receive, drop, discard, ask}
 use Rattle.rules.specs.Model.{stamp, made, shows, accepted, step, done, ask_reasons, reasons, ask_tells, why, filing, telling}
-use Rattle.rules.specs.Model.{grown, taken, merged, learns, learnt, turned, event, free_mail, slot_for, row_in, by_in, to_in, used, own, lags, tick, turn}
-use Rattle.rules.specs.Model.{picture, no_slot, chosen, of_two, too_far, wrong_owner, at_odds, first_odd, second_odd, pictured, says, names}
+use Rattle.rules.specs.Model.{grown, taken, merged, learns, learnt, turned, event, free_mail, slot_for, row_in, by_in, to_in}
+use Rattle.rules.specs.Model.{used, own, lags, tick, turn}
+use Rattle.rules.specs.Model.{picture, no_slot, chosen, of_two, too_far, wrong_owner, at_odds, first_odd, second_odd}
+use Rattle.rules.specs.Model.{pictured, says, names}
 use Rattle.rules.specs.Model.{settle, is_out, gap_held, near}
 use Rattle.history.specs.Round.{map_pair, map_row, map_seat, map_held, map_tables, map_value, map_result}
 use Rattle.tools.specs.Tables.{Each}

@@ -12,7 +12,8 @@ use Rattle.tools.proofs.Tables.{put_all, put_at_all, put_same, put_other, Each-a
 use Rattle.ring.specs.Phases.{Phases, Pair, is_later, later}
 use Rattle.rules.specs.Setups.{Setup}
 use Rattle.rules.specs.Model.{Row, Seat, Held, Tables, Act, local, reset, send, receive, drop, discard, ask}
-use Rattle.rules.specs.Model.{why, done, step, settle, fresh, seated, free_mail, slot_for, row_in, own, phases, tick, turn, grown, taken}
+use Rattle.rules.specs.Model.{why, done, step, settle, fresh, seated, free_mail, slot_for, row_in, own, phases, tick, turn}
+use Rattle.rules.specs.Model.{grown, taken}
 use Rattle.rules.specs.Model.{nothing, accepted}
 use Rattle.rules.specs.Calls.{Book, Call, start, on, fresh_book, settled, reasons_of, call}
 use Rattle.history.specs.Lags.{Past, NoneAhead}

@@ -24,7 +24,8 @@ use Rattle.tools.specs.Tables.{Each}
 use Rattle.tools.proofs.Tests.{lt_or_le, or_false_l, or_false_r, not_off, any_false, none_any}
 use Rattle.ring.specs.Phases.{line}
 use Rattle.rules.specs.Setups.{Setup, permits}
-use Rattle.rules.specs.Model.{Row, Held, Tables, picture, Value, says, names, Answer, accepted, used, row_in, by_in, zeros, own, phases, is_out}
+use Rattle.rules.specs.Model.{Row, Held, Tables, picture, Value, says, names, Answer, accepted, used, row_in, by_in, zeros}
+use Rattle.rules.specs.Model.{own, phases, is_out}
 use Rattle.rules.specs.Model.{no_slot, chosen, of_two, wrong_owner, knows_more, at_odds, pictured, gap, gap_held, gap_from, too_far}
 use Rattle.rules.specs.Model.{reach_back, telling, settle, ask_reasons, reasons, ask_tells, done, step}
 use Rattle.rules.specs.Calls.{Book, Call, on, fresh_book, ring_of, call}

@@ -20,7 +20,8 @@ use Rattle.rules.specs.Model.{Row, Seat, Held, Tables, Act, local, reset, send, 
 use Rattle.rules.specs.Model.{step, done, why, grown, taken, merged, turned, seated, row_in, own, phases, tick, turn, settle}
 use Rattle.rules.specs.Calls.{Call, start, on, line_of, call}
 use Rattle.rules.proofs.Steps.{step_number}
-use Rattle.history.specs.History.{Kind, is_reset, Local, Send, Reset, Receive, Log, History, logged, none_yet, adds, State, begin, next, after}
+use Rattle.history.specs.History.{Kind, is_reset, Local, Send, Reset, Receive, Log, History, logged, none_yet, adds, State}
+use Rattle.history.specs.History.{begin, next, after}
 use Rattle.history.specs.Contract.{reset_at}
 use Rattle.history.proofs.Causal.{below}
 use Rattle.history.proofs.Runs.{start_turn}

@@ -1,38 +1,37 @@
 -- The answers to before and compare off the book, from what was read on.
 -- Assumes nothing.
 use Prim.Native.Nat.{ℕ, zero, suc, ◌+◌, ◌-◌, ◌<◌, ◌≤◌}
-use mathlib.Core.Path.{◌≡◌, refl, sym, ap, ◌∙◌, subst}
+use mathlib.Core.Path.{◌≡◌, refl, sym, ap, ◌∙◌}
 use mathlib.Core.Bool.{Bool, true, false, not, ◌||◌, false≢true}
 use mathlib.Core.Option.{Option, none, some}
 use mathlib.Core.List.{List}
 use native.Mathlib.Omega.{arith}
-use lib.ListN.{length, replicate}
+use lib.ListN.{length, take, drop, length-drop, replicate}
+use Rattle.std.proofs.lemmas.List.{take_all}
 use Rattle.tools.specs.Tests.{pick}
-use Rattle.tools.specs.Lists.{byte, tab}
+use Rattle.tools.specs.Lists.{byte}
 use Rattle.ring.specs.Phases.{Pair, lag_of}
 use Rattle.ring.proofs.Ring.{lag_below, lag_by_last}
-use Rattle.rules.specs.declared.Relation.{Relation}
-use Rattle.rules.specs.declared.Compared.{Compared}
-use Rattle.rules.specs.declared.Compared.TheVariants as Compares
 use Rattle.rules.specs.declared.SetupNumbers.{SetupNumbers}
 use Rattle.rules.specs.Setups.{Setup, setup_with, permits}
-use Rattle.rules.specs.Numbers.{BadStamp, number}
-use Rattle.rules.specs.Model.{stamp, relates, Answer, refusal, accepted, near, is_out}
+use Rattle.rules.specs.declared.Refusal.TheVariants.{BadStamp}
+use Rattle.rules.specs.Numbers.{number}
+use Rattle.rules.specs.Model.{Value, stamp, Answer, refusal, accepted, near, is_out}
 use Rattle.rules.specs.Model.{Label}
-use Rattle.rules.specs.Labels.{reads, owner_in, row_read, gap_off, gap_read, why_off, before_off, compare_off, newer, newest_by, newest_off, Neither}
-use Rattle.rules.specs.Replies.{row_of, compared_says}
+use Rattle.rules.specs.Labels.{reads, owner_in, row_read, gap_off, gap_read, why_off, settle_off, before_off, compare_off}
+use Rattle.rules.specs.Replies.{row_of}
 use Rattle.rules.proofs.Setups.{Permitted, permitted}
 use Rattle.rules.proofs.Off.{shown_ahead, shown_back}
 use Rattle.book.specs.Layout.{row_spot, phase_spot, clock_spot}
 use Rattle.book.specs.Stamps.{label_of, read_ok, read_stamp}
 use Rattle.comparing.specs.Answers.{before_by, compare_by}
 use Rattle.comparing.proofs.Answers.{before_off_lem, compare_off_lem}
-use Rattle.parts.specs.Slices.{Slice}
-use Rattle.labels.specs.declared.Owner.{Owner}
-use Rattle.labels.specs.declared.Owner.TheVariants.{Of, Refused}
-use Rattle.labels.specs.Records.{read_as, owner_says, row_beside, HandedBack}
+use Rattle.std.specs.Prelude.{Result, Ok, Err}
+use Rattle.rules.specs.declared.Refusal.{Refusal}
+use Rattle.rules.proofs.Once.{not_done}
+use Rattle.labels.specs.Records.{read_as, owner_says, row_beside}
 use Rattle.labels.specs.Asked.{owner_read, Both, Between, WayRead, Owned}
-use Rattle.labels.proofs.Records.{label_pair, row_dropped, pair_below, stamp_told, read_readable}
+use Rattle.labels.proofs.Records.{label_pair, pair_below, stamp_told, read_readable}
 
 -- a record that reads tells what its bytes do
 bytes_told : (X : Setup) (r : List ℕ) → reads (read_stamp X r) ≡ true → read_stamp X r ≡ some (label_of r)
@@ -44,40 +43,43 @@ bytes_told X r = go (read_ok X r)
     go false h = absurd (false≢true h)
 
 -- what the owner or the refusal says of the record
-module _ (X : Setup) (r : List ℕ) (w : Owner) (told : w ≡ owner_read (read_stamp X r)) where
-  pub who_reads : (j : ℕ) → w ≡ Of j → (reads (read_stamp X r) ≡ true) × (owner_in (read_stamp X r) ≡ j)
+module _ (X : Setup) (r : List ℕ) (w : Result ℕ Refusal) (told : w ≡ owner_read (read_stamp X r)) where
+  pub who_reads : (j : ℕ) → w ≡ Ok j → (reads (read_stamp X r) ≡ true) × (owner_in (read_stamp X r) ≡ j)
   who_reads j q = go (read_stamp X r) (sym told ∙ q)
     where
-      go : (o : Option Label) → owner_read o ≡ Of j → (reads o ≡ true) × (owner_in o ≡ j)
+      go : (o : Option Label) → owner_read o ≡ Ok j → (reads o ≡ true) × (owner_in o ≡ j)
       go none e = absurd (let z : ◌≡◌ {A = ℕ} 0 1 = cc in omega arith)
       go (some s) e = (refl, cc)
 
-  pub who_refused : (n : ℕ) → w ≡ Refused n → (read_stamp X r ≡ none) × (n ≡ number BadStamp)
+  pub who_refused : (n : Refusal) → w ≡ Err n → (read_stamp X r ≡ none) × (n ≡ BadStamp)
   who_refused n q = go (read_stamp X r) (sym told ∙ q)
     where
-      go : (o : Option Label) → owner_read o ≡ Refused n → (o ≡ none) × (n ≡ number BadStamp)
+      go : (o : Option Label) → owner_read o ≡ Err n → (o ≡ none) × (n ≡ BadStamp)
       go none e = (refl, cc)
       go (some s) e = absurd (let z : ◌≡◌ {A = ℕ} 0 1 = cc in omega arith)
 
-  pub who_size : (j : ℕ) → w ≡ Of j → length r ≡ 20
+  pub who_size : (j : ℕ) → w ≡ Ok j → length r ≡ 20
   who_size j q = (stamp_told X r (label_of r) (bytes_told X r (who_reads j q).0)).0.size
 
   -- what reading answers: the refusal, or the owner with the sixteen bytes of the row
-  pub refused_reading : (n : ℕ) → w ≡ Refused n
+  pub refused_reading : (n : Refusal) → w ≡ Err n
       → (owner_says w (replicate 16 0) ≡ read_as (read_stamp X r)) × row_beside w (replicate 16 0)
   refused_reading n q = let u = who_refused n q in rw (q, u.0, u.1) (refl, refl)
 
-  pub told_reading : (j : ℕ) (l : List ℕ) → w ≡ Of j → l ≡ tab 0 16 (λ c. byte r (4 + c))
+  pub told_reading : (j : ℕ) (l : List ℕ) → w ≡ Ok j → l ≡ take (length r - 4) (drop 4 r)
       → (owner_says w l ≡ read_as (read_stamp X r)) × row_beside w l
   told_reading j l q t =
-      rw (told, bytes_told X r (who_reads j q).0)
-      (ap (λ (b : List ℕ). accepted (stamp (byte r 2) (row_of b))) (t ∙ row_dropped r (who_size j q)), tt)
+      rw (told, bytes_told X r (who_reads j q).0) (
+        ap (λ (b : List ℕ). accepted (stamp (byte r 2) (row_of b)))
+            (t ∙ take_all (length r - 4) (drop 4 r) (omega (arith, length-drop 4 r))),
+        tt,
+      )
 
 -- the number of two records of which one does not read, where the setup is permitted
-pub unread : (X : Setup) (a b : List ℕ) (n : ℕ) → permits X ≡ true
-    → (not (reads (read_stamp X a)) || not (reads (read_stamp X b))) ≡ true → n ≡ number BadStamp
-    → ((out : Bool) → why_off X (read_stamp X a) (read_stamp X b) out ≡ n) × (n ≡ 0 → ⊥)
-unread X a b n p u q = (λ out. rw (p, u) (sym q), λ z. omega (arith, q, z))
+pub unread : (X : Setup) (a b : List ℕ) (n : Refusal) → permits X ≡ true
+    → (not (reads (read_stamp X a)) || not (reads (read_stamp X b))) ≡ true → n ≡ BadStamp
+    → (out : Bool) → why_off X (read_stamp X a) (read_stamp X b) out ≡ number n
+unread X a b n p u q out = rw (p, u, q)
 
 module _ (X : Setup) (a b : List ℕ) (j : ℕ) (h : Both X a b) (own : owner_in (read_stamp X a) ≡ j) where
   fair : Permitted X
@@ -114,7 +116,7 @@ module _ (X : Setup) (a b : List ℕ) (j : ℕ) (h : Both X a b) (own : owner_in
     -- the way, by the difference that the bytes show
     between : (up down : ℕ)
         → gap_off X j (label_of a).row (label_of b).row ≡ near X ((label_of a).row j).clock (record { up = up; down = down })
-        → WayRead X a b j (record { up = up; down = down; from = byte a c; to = byte b c })
+        → WayRead X a b j (record { gap = record { up = up; down = down }; from = byte a c; to = byte b c })
     between up down g =
         record {
           gap = (λ i. gap_read X (one i) (two i)) ∙ ap (λ o. gap_off X o (label_of a).row (label_of b).row) owner ∙ g
@@ -131,14 +133,14 @@ module _ (X : Setup) (a b : List ℕ) (j : ℕ) (h : Both X a b) (own : owner_in
       lag_is = sym (lag ∙ (λ i. lag_of X.phases (phase_at b i) (phase_at a i)))
 
       pub way_ahead : r < X.ahead
-          → WayRead X a b j (record { up = r; down = 0; from = byte a c; to = byte b c })
+          → WayRead X a b j (record { gap = record { up = r; down = 0 }; from = byte a c; to = byte b c })
       way_ahead l =
           between r 0
           (shown_ahead X fair j (label_of a).row (label_of b).row (omega (arith, l, lag_is))
           ∙ ap (λ u. near X ((label_of a).row j).clock (record { up = u; down = 0 })) lag_is)
 
       pub way_back : (down : ℕ) → down ≡ X.phases - r → X.ahead ≤ r
-          → WayRead X a b j (record { up = 0; down = down; from = byte a c; to = byte b c })
+          → WayRead X a b j (record { gap = record { up = 0; down = down }; from = byte a c; to = byte b c })
       way_back down e l =
           between 0 down
           (shown_back X fair j (label_of a).row (label_of b).row (omega (arith, l, lag_is))
@@ -146,7 +148,8 @@ module _ (X : Setup) (a b : List ℕ) (j : ℕ) (h : Both X a b) (own : owner_in
           ∙ ap (λ u. near X ((label_of a).row j).clock (record { up = 0; down = u })) (sym e))
 
 -- what the way asks, whatever the limits
-pub ready : (s : SetupNumbers) (l a b : List ℕ) (j : ℕ) → Both (setup_with s l) a b → owner_in (read_stamp (setup_with s l) a) ≡ j → Between s a b j
+pub ready : (s : SetupNumbers) (l a b : List ℕ) (j : ℕ) → Both (setup_with s l) a b → owner_in (read_stamp (setup_with s l) a) ≡ j
+    → Between s a b j
 ready s l a b j h own =
     let X = setup_with s l in
     let p = permitted X h.fair in
@@ -161,7 +164,8 @@ ready s l a b j h own =
     }
 
 -- read where the desk's phase stands, the lag is that of the ring, and below its phases
-pub lag_taken : (s : SetupNumbers) (a b : List ℕ) (j p last r : ℕ) → Between s a b j → p ≡ row_spot + phase_spot j → last + 1 ≡ s.phases
+pub lag_taken : (s : SetupNumbers) (a b : List ℕ) (j p last r : ℕ) → Between s a b j → p ≡ row_spot + phase_spot j
+    → last + 1 ≡ s.phases
     → (byte a p ≤ last → r ≡ lag_of (last + 1) (byte b p) (byte a p)) → (r ≡ lag_of s.phases (byte b p) (byte a p)) × (r < s.phases)
 lag_taken s a b j p last r h stands all told =
     let on_ring : (byte a p < s.phases) × (byte b p < s.phases) = rw stands (h.first, h.second) in
@@ -169,16 +173,18 @@ lag_taken s a b j p last r h stands all told =
     (lag_is, omega (arith, lag_below s.phases (byte b p) (byte a p) on_ring.1, lag_is))
 
 -- two records as they read, and what is asked of them
-module _ (X : Setup) (e f : Option Label) where
-  pub before_refused : (n : ℕ) → ((out : Bool) → why_off X e f out ≡ n) → (n ≡ 0 → ⊥) → refusal n ≡ before_off X e f
-  unfolding before_off
-  before_refused zero due ne = absurd (ne refl)
-  before_refused (suc n) due ne = rw (before_off, due (is_out (gap_read X e f)))
+module _ (X : Setup) (e f : Option Label) (w : Refusal) (due : (out : Bool) → why_off X e f out ≡ number w) where
+  settled : (n : ℕ) (v : Value) → n ≡ number w → refusal (number w) ≡ settle_off n v
+  settled zero v q = absurd (not_done w (sym q))
+  settled (suc n) v q = ap refusal (sym q)
 
-  pub compare_refused : (n : ℕ) → ((out : Bool) → why_off X e f out ≡ n) → (n ≡ 0 → ⊥) → refusal n ≡ compare_off X e f
+  pub before_refused : refusal (number w) ≡ before_off X e f
+  unfolding before_off
+  before_refused = settled _ _ (due (is_out (gap_read X e f)))
+
+  pub compare_refused : refusal (number w) ≡ compare_off X e f
   unfolding compare_off
-  compare_refused zero due ne = absurd (ne refl)
-  compare_refused (suc n) due ne = rw (compare_off, due (is_out (gap_read X e f) || is_out (gap_read X f e)))
+  compare_refused = settled _ _ (due (is_out (gap_read X e f) || is_out (gap_read X f e)))
 
 pub flipped : {X : Setup} {a b : List ℕ} → Both X a b → Both X b a
 flipped h = record { fair = h.fair; one = h.two; two = h.one }
@@ -198,19 +204,8 @@ module _ (X : Setup) (a b : List ℕ) (j k : ℕ) (h : Owned X a b j k) where
       q ∙ (λ i. before_by (gap_read X e f) (sym h.first i) (sym h.second i) (row_read e) (row_read f))
       ∙ before_off_lem X e f h.both.fair h.both.one h.both.two
 
-  pub compare_answered : (r : Answer) → r ≡ compare_by (gap_read X e f) (gap_read X f e) j k (row_read e) (row_read f) → r ≡ compare_off X e f
+  pub compare_answered : (r : Answer) → r ≡ compare_by (gap_read X e f) (gap_read X f e) j k (row_read e) (row_read f)
+      → r ≡ compare_off X e f
   compare_answered r q =
       q ∙ (λ i. compare_by (gap_read X e f) (gap_read X f e) (sym h.first i) (sym h.second i) (row_read e) (row_read f))
       ∙ compare_off_lem X e f h.both.fair h.both.one h.both.two
-
--- what newest hands back, by the answer to compare
-module _ (X : Setup) (e f : Option Label) (r : Compared) (told : compared_says r ≡ compare_off X e f) (a b p : Slice) where
-  handed : (d : Answer) → d ≡ compared_says r → HandedBack (newest_by d.value) a b p → HandedBack (newest_off X e f) a b p
-  handed d h = subst (λ (g : Answer). HandedBack (newest_by g.value) a b p) (h ∙ told)
-
-  pub newest_by_lem : {q n : Relation} → r ≡ Compares.Is q → q ≡ n → HandedBack (newer n) a b p → HandedBack (newest_off X e f) a b p
-  newest_by_lem {q} {n} h same =
-      handed (accepted (relates n)) (ap (λ (x : Relation). accepted (relates x)) (sym same) ∙ sym (ap compared_says h))
-
-  pub newest_none : {n : ℕ} → r ≡ Compares.Refused n → HandedBack Neither a b p → HandedBack (newest_off X e f) a b p
-  newest_none {n} h = handed (refusal n) (sym (ap compared_says h))

@@ -17,16 +17,20 @@ use Rattle.tools.proofs.Tests.{eq_or_ne, and_true_l, and_true_r, below_one, same
 use Rattle.tools.proofs.Lists.{tab_at}
 use Rattle.ring.specs.Phases.{Pair}
 use Rattle.rules.specs.Setups.{Setup, limit}
-use Rattle.rules.specs.Numbers.{BadStamp, number}
+use Rattle.rules.specs.declared.Refusal.TheVariants.{BadStamp}
 use Rattle.rules.specs.Model.{Row}
 use Rattle.rules.specs.Replies.{phase_spot, clock_spot, row_byte, row_bytes}
 use Rattle.rules.proofs.RowBytes.{row_phase, row_clock, rows_alike}
 use Rattle.book.proofs.Rows.{set_pair}
 use Rattle.book.specs.Stamps.{label_of, pair_reads, read_ok, read_stamp}
-use Rattle.labels.specs.declared.Owner.TheVariants.{Of, Refused}
+use Rattle.std.specs.Prelude.{Ok, Err}
 use Rattle.labels.specs.Counts.{capped, count_row, Counts, row_reads, head_reads}
 use Rattle.labels.specs.Asked.{owner_read}
 use Rattle.labels.proofs.Records.{Clauses, read_clauses, clauses_read}
+
+not_true : (t : Bool) → (t ≡ true → ⊥) → t ≡ false
+not_true true n = absurd (n refl)
+not_true false n = refl
 
 -- a byte is below a count exactly where it is below the cap of it
 below_cap : (v n : ℕ) → v < 256 → ltb v (capped n) ≡ ltb v n
@@ -44,7 +48,8 @@ module _ (P : ℕ) (ls : List ℕ) where
       → x ≡ capped P → y ≡ capped (byte ls j) → set (set l p x) q y ≡ row_bytes (count_row (j + 1) P ls)
   counts_more j p q x y l e m ep eq ex ey =
       rw (e, ep, eq, ex, ey)
-      (set_pair (count_row j P ls) j m pair ∙ rows_alike (put (count_row j P ls) j pair) (count_row (j + 1) P ls) (λ k n. go k (eq_or_ne k j)))
+      (set_pair (count_row j P ls) j m pair
+      ∙ rows_alike (put (count_row j P ls) j pair) (count_row (j + 1) P ls) (λ k n. go k (eq_or_ne k j)))
     where
       pair : Pair
       pair = record { phase = capped P; clock = capped (byte ls j) }
@@ -134,16 +139,17 @@ module _ (X : Setup) (r : List ℕ) where
       go true e = clauses_parts (read_clauses X r e)
       go false e = none (row_reads X r && head_reads X.desks r) refl e
 
-  pub row_size_lem : row_reads X r ≡ true → length r ≡ 20
-  unfolding row_reads
-  row_size_lem h = eqb-true _ _ (and_true_l (eqb (length r) 20) _ h)
-
   -- so its owner is told, or it is refused
   pub who_is : (t : Bool) → (row_reads X r && head_reads X.desks r) ≡ t
-      → pick t (Of (byte r 2)) (Refused (number BadStamp)) ≡ owner_read (read_stamp X r)
+      → pick t (Ok (byte r 2)) (Err BadStamp) ≡ owner_read (read_stamp X r)
   unfolding read_stamp
   who_is t e = rw (read_stamp, sym read_both ∙ e) (go t)
     where
-      go : (t : Bool) → pick t (Of (byte r 2)) (Refused (number BadStamp)) ≡ owner_read (pick t (some (label_of r)) none)
+      go : (t : Bool) → pick t (Ok (byte r 2)) (Err BadStamp) ≡ owner_read (pick t (some (label_of r)) none)
       go true = refl
       go false = refl
+
+  -- and bytes that are no record are refused
+  pub who_none : (length r ≡ 20 → ⊥) → Err BadStamp ≡ owner_read (read_stamp X r)
+  unfolding read_stamp
+  who_none n = rw (read_stamp, not_true (read_ok X r) (λ h. n (read_clauses X r h).size))

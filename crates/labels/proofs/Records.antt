@@ -18,7 +18,7 @@ use Rattle.tools.proofs.Lists.{length_tab, tab_at, is_tab}
 use Rattle.ring.specs.Phases.{Pair}
 use Rattle.rules.specs.Setups.{Setup, limit}
 use Rattle.rules.specs.Model.{Label, zeros}
-use Rattle.rules.specs.Replies.{row_byte, row_bytes}
+use Rattle.rules.specs.Replies.{row_byte, row_bytes, row_of}
 use Rattle.book.specs.Layout.{row_spot, phase_spot, clock_spot, marked_byte}
 use Rattle.book.specs.Stamps.{stamp_mark0, stamp_mark1, stamp_byte, write_stamp, label_of, pair_reads, read_ok, read_stamp}
 use Rattle.rules.proofs.RowBytes.{row_phase, row_clock, bytes_of_row}
@@ -31,15 +31,17 @@ label_pair r j l =
     rw (lt-ltb j 8 l)
     (λ i. record { phase = get_or-drop row_spot r (phase_spot j) 0 i; clock = get_or-drop row_spot r (clock_spot j) 0 i })
 
--- the sixteen bytes after the mark, the owner and D
-pub row_dropped : (r : List ℕ) → length r ≡ 20 → tab 0 16 (λ c. byte r (4 + c)) ≡ drop 4 r
-row_dropped r e = sym (is_tab 16 (λ c. byte r (4 + c)) (drop 4 r) (length-drop 4 r ∙ omega arith) (λ i l. get_or-drop 4 r i 0))
-
 row_byte_lem : (r : List ℕ) → length r ≡ 20 → (c : ℕ) → c < 16 → byte r (4 + c) ≡ row_byte (label_of r).row c
 unfolding row_bytes
 row_byte_lem r e c l =
     sym (get_or-drop 4 r c 0) ∙ ap (λ (b : List ℕ). byte b c) (sym (bytes_of_row (drop 4 r) (length-drop 4 r ∙ omega arith)))
     ∙ tab_at 16 (row_byte (label_of r).row) c l
+
+-- the record that is written of sixteen bytes
+pub of_bytes : (d o : ℕ) (l : List ℕ) → length l ≡ 16
+    → (stamp_mark0 ∷ stamp_mark1 ∷ o ∷ d ∷ l) ≡ write_stamp d (record { owner = o; row = row_of l })
+unfolding tab write_stamp marked_byte row_byte
+of_bytes d o l e = ap (λ (r : List ℕ). stamp_mark0 ∷ stamp_mark1 ∷ o ∷ d ∷ r) (is_tab 16 (byte l) l e (λ i m. refl))
 
 -- a pair that reads
 module _ (X : Setup) (j : ℕ) (q : Pair) (h : pair_reads X j q ≡ true) where

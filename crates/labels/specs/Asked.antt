@@ -1,36 +1,29 @@
 -- What the calls off the book ask of two records, before their answer.
 -- Assumes nothing.
 --   owner_read o       the owner of the stamp o that a record tells, or the refusal where it tells none
---   refusal_in w       the number of the refusal w; 0 of an owner
 --   Both X a b         the setup X is permitted, and the bytes a and b read as records
 --   Between s a b j    the way from the record a of desk j to the record b can be fetched under the numbers s
 --   WayRead X a b j w  w is the way from the record a of desk j to the record b
 --   Owned X a b j k    the two can be asked: they are of desks j and k
---   Asked X a b q      q is the owners of the two, or the number that is due whatever their difference
-use Rattle.std.specs.Prelude.{◌≡◌, Bool, true, List, ℕ, ◌+◌, ◌≤◌, ◌<◌, length}
+--   Asked X a b q      q is the owners of the two, or the refusal that is due whatever their difference
+use Rattle.std.specs.Prelude.{◌≡◌, Bool, true, List, ℕ, Result, Ok, Err, ◌+◌, ◌≤◌, ◌<◌, length}
 use Rattle.std.proofs.Math.Option.{Option, none, some}
 use Rattle.tools.specs.Lists.{byte}
 use Rattle.rules.specs.declared.SetupNumbers.{SetupNumbers}
 use Rattle.rules.specs.Setups.{Setup, permits}
-use Rattle.rules.specs.Numbers.{BadStamp, number}
+use Rattle.rules.specs.declared.Refusal.TheVariants.{BadStamp}
+use Rattle.rules.specs.Numbers.{number}
 use Rattle.rules.specs.Model.{Label}
 use Rattle.rules.specs.Labels.{reads, owner_in, row_read, gap_read, why_off}
 use Rattle.book.specs.Layout.{record_size, seats, row_spot, phase_spot}
 use Rattle.book.specs.Stamps.{read_stamp}
 use Rattle.comparing.specs.declared.Way.{Way}
 use Rattle.comparing.specs.Ways.{WayOf}
-use Rattle.labels.specs.declared.Owner.{Owner}
-use Rattle.labels.specs.declared.Owner.TheVariants.{Of, Refused}
-use Rattle.labels.specs.declared.Owners.{Owners}
-use Rattle.labels.specs.declared.Owners.TheVariants as Owning
+use Rattle.rules.specs.declared.Refusal.{Refusal}
 
-abbrev pub owner_read : Option Label → Owner
-owner_read none = Refused (number BadStamp)
-owner_read (some e) = Of e.owner
-
-abbrev pub refusal_in : Owner → ℕ
-refusal_in (Of j) = 0
-refusal_in (Refused n) = n
+abbrev pub owner_read : Option Label → Result ℕ Refusal
+owner_read none = Err BadStamp
+owner_read (some e) = Ok e.owner
 
 pub record Both (X : Setup) (a b : List ℕ) : Type 0 where
   pub fair : permits X ≡ true
@@ -55,6 +48,6 @@ pub record Owned (X : Setup) (a b : List ℕ) (j k : ℕ) : Type 0 where
   pub first : owner_in (read_stamp X a) ≡ j
   pub second : owner_in (read_stamp X b) ≡ k
 
-abbrev pub Asked : Setup → List ℕ → List ℕ → Owners → Type 0
-Asked X a b (Owning.Of j k) = Owned X a b j k
-Asked X a b (Owning.Refused n) = ((out : Bool) → why_off X (read_stamp X a) (read_stamp X b) out ≡ n) × (n ≡ 0 → ⊥)
+abbrev pub Asked : Setup → List ℕ → List ℕ → Result (ℕ × ℕ) Refusal → Type 0
+Asked X a b (Ok o) = Owned X a b o.0 o.1
+Asked X a b (Err r) = (out : Bool) → why_off X (read_stamp X a) (read_stamp X b) out ≡ number r

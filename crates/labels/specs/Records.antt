@@ -7,33 +7,33 @@
 --   Readable X e     the stamp e is one that a record can tell under the setup X: in range, and zero where there is no desk
 --   newest_of X a b  which of the records a and b newest hands back
 --   HandedBack w a b r   the slice r is what w names of the slices a and b, the caller's own bytes: a, b, or an empty part of a
-use Rattle.std.specs.Prelude.{◌≡◌, true, List, [], ℕ, ◌<◌, replicate}
+use Rattle.std.specs.Prelude.{◌≡◌, true, List, [], ℕ, ◌<◌, replicate, Result, Ok, Err}
 use Rattle.std.proofs.Math.Option.{Option, none, some}
 use Rattle.rules.specs.Setups.{Setup}
-use Rattle.rules.specs.Numbers.{BadStamp, number}
+use Rattle.rules.specs.declared.Refusal.TheVariants.{BadStamp}
+use Rattle.rules.specs.Numbers.{number}
 use Rattle.rules.specs.Model.{Label, stamp, Answer, refusal, accepted}
 use Rattle.rules.specs.Labels.{newest_off, Which, First, Second, Neither}
 use Rattle.rules.specs.Replies.{row_of}
 use Rattle.book.specs.Stamps.{pair_reads, read_stamp}
 use Rattle.parts.specs.Slices.{Slice, place}
-use Rattle.labels.specs.declared.Owner.{Owner}
-use Rattle.labels.specs.declared.Owner.TheVariants.{Of, Refused}
+use Rattle.rules.specs.declared.Refusal.{Refusal}
 use Rattle.labels.specs.declared.Reading.{Reading}
 
 abbrev pub read_as : Option Label → Answer
 read_as none = refusal (number BadStamp)
 read_as (some e) = accepted (stamp e.owner e.row)
 
-abbrev pub owner_says : Owner → List ℕ → Answer
-owner_says (Of j) l = accepted (stamp j (row_of l))
-owner_says (Refused n) l = refusal n
+abbrev pub owner_says : Result ℕ Refusal → List ℕ → Answer
+owner_says (Ok j) l = accepted (stamp j (row_of l))
+owner_says (Err r) l = refusal (number r)
 
 abbrev pub read_says : Reading → Answer
 read_says r = owner_says r.who r.row
 
-abbrev pub row_beside : Owner → List ℕ → Type 0
-row_beside (Of j) l = Unit {0}
-row_beside (Refused n) l = l ≡ replicate 16 0
+abbrev pub row_beside : Result ℕ Refusal → List ℕ → Type 0
+row_beside (Ok j) l = Unit {0}
+row_beside (Err r) l = l ≡ replicate 16 0
 
 pub record Readable (X : Setup) (e : Label) : Type 0 where
   pub owner : e.owner < X.desks

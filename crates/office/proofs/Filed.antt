@@ -3,28 +3,30 @@
 --   no_papers    a question asks no paper
 --   filed        the papers are ready, and the call is made
 --   unready      a paper is not ready: nothing is made
+use Rattle.std.specs.Prelude.{Result, Ok, Err}
+use Rattle.std.specs.Prelude as Std
+use Rattle.std.specs.Option.{unwrap_or}
+use Rattle.std.specs.Result.{result_err}
 use Prim.Native.Nat.{ℕ, zero, suc}
-use mathlib.Core.Path.{◌≡◌, refl, sym, ap, subst, ◌∙◌}
-use mathlib.Core.Bool.{Bool, true, false, not}
-use mathlib.Core.Option.{Option, none}
-use mathlib.Core.List.{List, [], ◌∷◌}
+use mathlib.Core.Path.{◌≡◌, refl, sym, ap, ◌∙◌}
+use mathlib.Core.Bool.{Bool, true, false, not, true≢false}
+use mathlib.Core.List.{List, [], ◌∷◌, ◌++◌}
 use native.Mathlib.Omega.{arith}
 use borrow.Author.Tests.{eqb-true, eq-eqb, ne_eqb}
 use lib.Dec.{eqb}
 use lib.ListN.{length}
+use lib.ListN as Bytes
+use Rattle.std.proofs.Math.Seq.{drop-length}
+use Rattle.std.proofs.lemmas.List.{append-nil}
 use Rattle.tools.specs.Tests.{pick}
 use Rattle.tools.specs.Reasons.{first, if_done}
-use Rattle.rules.specs.declared.Stamp.{Stamp}
-use Rattle.rules.specs.declared.Stamped.{Stamped}
-use Rattle.rules.specs.declared.Received.{Received}
-use Rattle.rules.specs.declared.Sent.{Sent}
-use Rattle.rules.specs.declared.Kept.{Kept}
-use Rattle.rules.specs.declared.Kept.TheVariants as Keeps
-use Rattle.rules.specs.declared.Posted.{Posted}
-use Rattle.rules.specs.declared.Posted.TheVariants as Posts
+use Rattle.rules.specs.declared.Refusal.{Refusal}
+use Rattle.rules.specs.declared.Refusal.TheVariants.{BadSummary}
+use Rattle.rules.specs.Numbers.{number}
 use Rattle.rules.specs.Setups.{Setup}
-use Rattle.rules.specs.Model.{Question, drop, discard, ask, Answer, refusal, accepted, made, reasons}
-use Rattle.rules.specs.Replies.{row_of, slot_in, event_says, stamped_says, received_says, posted_says, blank, Beside, BesideLearnt, BesidePost}
+use Rattle.rules.specs.Model.{Question, Act, drop, discard, ask, Value, Answer, refusal, accepted, reasons}
+use Rattle.rules.specs.Replies.{number_in, answer_by}
+use Rattle.rules.proofs.Once.{not_done}
 use Rattle.rules.specs.Calls.{Call, start, on, alters, ring_of, fresh_book, call}
 use Rattle.book.specs.Layout.{mail_from, shelf_from}
 use Rattle.book.specs.Sound.{sound}
@@ -35,14 +37,18 @@ use Rattle.summary.specs.Summary.{summary_due, level, summary_with, summary_of}
 use Rattle.summary.proofs.Right.{fresh_right}
 use Rattle.book.proofs.Numbers.{answer_number}
 use Rattle.refusals.specs.First.{used_number}
+use Rattle.refusals.specs.Grants.{Grant, granted_by, grant_of}
 use Rattle.refusals.proofs.Started.{start_ready}
-use Rattle.portal.proofs.Acts.{blank_beside, none_beside}
 use Rattle.office.specs.Papers.{papers_number, together, left}
 use Rattle.office.specs.Office.{Folder, folder, summary_at, papers_at, office_answer, folder_after}
 use Rattle.office.proofs.Papers.{together_same, together_first, together_last}
 
 pub if_done_lem : {A : Type 0} (n : ℕ) (a b : A) → n ≡ 0 → if_done n a b ≡ a
 if_done_lem n a b e = ap (λ n. if_done n a b) e
+
+-- bytes in front of as many others are all of them
+pub whole_front : (p s : List ℕ) → length s ≡ 26 → p ++ Bytes.drop 26 s ≡ p
+whole_front p s e = ap (λ n. p ++ Bytes.drop n s) (sym e) ∙ ap (λ l. p ++ l) (drop-length s) ∙ append-nil p
 
 -- the summary's own number
 pub due_none : (m : List ℕ) → length m ≡ 26 → 0 ≡ first (summary_due m)
@@ -126,52 +132,61 @@ module _ (s m : List ℕ) (c : Call) (alt : alters c ≡ true) where
       let no : r ≡ 0 → ⊥ = λ z. f.1 (sym er ∙ z) in
       (a, still r a no, no)
 
--- an event that is refused for its papers
-module _ (s m : List ℕ) (c : Call) (alt : alters c ≡ true) (n : ℕ) (e : n ≡ first (summary_due m)) (ne : n ≡ 0 → ⊥)
-    (k : ℕ) (ek : k ≡ (answer_to s c).number) (r : ℕ) (er : r ≡ (together n (refusal k)).number) where
-  pub unready_stamps : (x : Stamped) → x ≡ record { number = r; stamp = blank; kept = Keeps.No }
-      → (stamped_says x ≡ office_answer (folder s m) c) × (Beside x.number x.stamp x.kept × (folder s m ≡ folder_after (folder s m) c))
-  unfolding event_says
-  unready_stamps x ex =
-      let u = unready s m c alt n e ne k ek r er in
-      subst (λ (x : Stamped). (stamped_says x ≡ office_answer (folder s m) c)
-      × (Beside x.number x.stamp x.kept × (folder s m ≡ folder_after (folder s m) c)))
-      (sym ex) (rw (ne_eqb r 0 u.2) u.0, (blank_beside r, u.1))
+-- the number that an answer says
+pub says_number : {A : Type 0} (v : A → Value) (r : Result A Refusal) (a : Answer) → answer_by v r ≡ a → number_in r ≡ a.number
+says_number v (Ok x) a e = ap (λ (a : Answer). a.number) e
+says_number v (Err w) a e = ap (λ (a : Answer). a.number) e
 
-  pub unready_receives : (x : Received) → x ≡ record { number = r; stamp = blank; learnt = 0; kept = Keeps.No }
-      → (received_says x ≡ office_answer (folder s m) c)
-      × (Beside x.number x.stamp x.kept × (BesideLearnt x.number x.learnt × (folder s m ≡ folder_after (folder s m) c)))
-  unfolding event_says
-  unready_receives x ex =
-      let u = unready s m c alt n e ne k ek r er in
-      subst (λ (x : Received). (received_says x ≡ office_answer (folder s m) c)
-      × (Beside x.number x.stamp x.kept × (BesideLearnt x.number x.learnt × (folder s m ≡ folder_after (folder s m) c))))
-      (sym ex) (rw (ne_eqb r 0 u.2) u.0, (blank_beside r, (none_beside r, u.1)))
+-- an accepted one leaves a sound book
+pub left_sound : {A : Type 0} (v : A → Value) (s : List ℕ) (c : Call) (x : A) (b : List ℕ) → accepted (v x) ≡ answer_to s c
+    → b ≡ book_after s c → sound b ≡ true
+left_sound v s c x b e eb = ap sound eb ∙ accepted_sound s c (ap (λ (a : Answer). a.number) (sym e))
 
-  pub unready_sends : (x : Sent) → x ≡ record { place = Posts.Refused r; stamp = blank; kept = Keeps.No }
-      → (posted_says x.place x.stamp x.kept ≡ office_answer (folder s m) c)
-      × (BesidePost x.place x.stamp x.kept × (folder s m ≡ folder_after (folder s m) c))
-  unready_sends x ex =
-      let u = unready s m c alt n e ne k ek r er in
-      subst (λ (x : Sent). (posted_says x.place x.stamp x.kept ≡ office_answer (folder s m) c)
-      × (BesidePost x.place x.stamp x.kept × (folder s m ≡ folder_after (folder s m) c)))
-      (sym ex) (u.0, ((refl, refl), u.1))
+-- a change of the code
+module _ {A : Type 0} (v : A → Value) (s m : List ℕ) (c : Call) (alt : alters c ≡ true) where
+  abbrev Filed : Result A Refusal → List ℕ → List ℕ → Type 0
+  Filed r b p = (answer_by v r ≡ office_answer (folder s m) c) × (folder b p ≡ folder_after (folder s m) c)
 
--- the number in an event's answer
-pub event_number : (n : ℕ) (x : Stamp) (l : Option ℕ) (k : Kept) → n ≡ (event_says n x l k).number
-unfolding event_says
-event_number zero x l k = refl
-event_number (suc n) x l k =
-    sym (ap (λ t. (pick t (accepted (made none x.owner (row_of x.row) l (slot_in k))) (refusal (suc n))).number)
-    (ne_eqb (suc n) 0 (λ z. omega arith)))
+  -- a paper is not ready: the number of the book's check, or where that is 0 theirs
+  unfiled : (n : length m ≡ 26 → ⊥) {B : Type 0} (g : Result B Refusal) → number_in g ≡ (answer_to s c).number
+      → Filed (Err (unwrap_or (result_err g) BadSummary)) s m
+  unfiled n (Ok x) e =
+      let u = unready s m c alt 21 (due_length m n) (λ z. omega arith) 0 e 21 refl in (u.0, u.1)
+  unfiled n (Err w) e =
+      let u = unready s m c alt 21 (due_length m n) (λ z. omega arith) (number w) e (number w)
+      (sym (ap (λ (a : Answer). a.number) (together_first 21 (refusal (number w)) (not_done w)))) in
+      (u.0, u.1)
 
-pub sent_number : (p : Posted) (x : Stamp) (k : Kept) → (posted_says p blank Keeps.No).number ≡ (posted_says p x k).number
-sent_number (Posts.At p) x k = refl
-sent_number (Posts.Refused n) x k = refl
+  -- every paper is ready: the call is made
+  pub made : length m ≡ 26 → (r : Result A Refusal) → answer_by v r ≡ answer_to s c → (b : List ℕ) → b ≡ book_after s c
+      → (p : List ℕ) → p ≡ if_done (number_in r) (summary_of ring_of (decode b)) m → Filed r b p
+  made size r e b eb p ep =
+      filed s m c alt 0 (due_none m size) refl (answer_by v r) e (number_in r) (says_number v r (answer_by v r) refl) b p eb ep
 
--- what the papers are made of: a book that an accepted change has left
-pub left_sound : (s : List ℕ) (c : Call) (k : ℕ) → k ≡ (answer_to s c).number → (b : List ℕ) → b ≡ book_after s c → k ≡ 0 → sound b ≡ true
-left_sound s c k ek b eb z = ap sound eb ∙ accepted_sound s c (sym ek ∙ z)
+  -- either, and g is what the book's check has answered
+  pub changed : {B : Type 0} (r : Result A Refusal) (b p : List ℕ)
+      → ((length m ≡ 26 → ⊥) → (g : Result B Refusal) × (number_in g ≡ (answer_to s c).number)
+      × (r ≡ Err (unwrap_or (result_err g) BadSummary)) × (b ≡ s) × (p ≡ m))
+      → (length m ≡ 26 → (answer_by v r ≡ answer_to s c) × (b ≡ book_after s c)
+      × (p ≡ if_done (number_in r) (summary_of ring_of (decode b)) m))
+      → Filed r b p
+  changed r b p short ready = go (eqb (length m) 26) refl
+    where
+      go : (t : Bool) → eqb (length m) 26 ≡ t → Filed r b p
+      go true q =
+          let size = eqb-true (length m) 26 q in
+          let f = ready size in made size r f.0 b f.1 p f.2
+      go false q =
+          let ne : length m ≡ 26 → ⊥ = λ e. true≢false (sym (eq-eqb (length m) 26 e) ∙ q) in
+          let f = short ne in
+          let u = unfiled ne f.0 f.1 in
+          (ap (answer_by v) f.2 ∙ u.0, (λ i. folder (f.3 i) (f.4 i)) ∙ u.1)
+
+-- the number of an event, by what it is granted
+pub granted_number : (s : List ℕ) (c : Act) (q : Bool) (g : Result (Std.Option ℕ) Refusal) → granted_by g ≡ grant_of s c q
+    → number_in g ≡ (answer_to s (on c)).number
+granted_number s c q (Ok k) e = ap (λ (g : Grant). g.number) e ∙ sym (answer_number s c)
+granted_number s c q (Err w) e = ap (λ (g : Grant). g.number) e ∙ sym (answer_number s c)
 
 -- an accepted start leaves a fresh book, by the rules
 started_book : (s : List ℕ) (X : Setup) → (answer_to s (start X)).number ≡ 0 → (turn_on s (start X)).book ≡ fresh_book X
@@ -179,12 +194,11 @@ unfolding call
 started_book s X z = let p = (start_ready s X z).1 in rw p
 
 -- start writes the summary of a fresh book
-pub start_filed : (s : List ℕ) (X : Setup) (k : ℕ) → k ≡ (answer_to s (start X)).number → (b : List ℕ) → b ≡ book_after s (start X)
-    → (m p : List ℕ) → p ≡ if_done k (summary_with (λ j. level)) m → p ≡ if_done k (summary_of ring_of (decode b)) m
-start_filed s X zero ek b eb m p ep =
-    let fresh = accepted_decode s (start X) (sym ek) ∙ started_book s X (sym ek) in
+pub start_filed : (s : List ℕ) (X : Setup) → (answer_to s (start X)).number ≡ 0 → (b : List ℕ) → b ≡ book_after s (start X)
+    → (p : List ℕ) → p ≡ summary_with (λ j. level) → p ≡ summary_of ring_of (decode b)
+start_filed s X z b eb p ep =
+    let fresh = accepted_decode s (start X) z ∙ started_book s X z in
     ep ∙ fresh_right X ∙ sym (ap (summary_of ring_of) (ap decode eb ∙ fresh))
-start_filed s X (suc k) ek b eb m p ep = ep
 
 -- the number of drop and of discard
 pub drop_number : (s : List ℕ) (p : ℕ) → used_number s shelf_from p ≡ (answer_to s (on (drop p))).number

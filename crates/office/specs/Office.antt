@@ -11,7 +11,8 @@
 use Rattle.std.specs.Prelude.{ℕ, not, List, [], ◌∷◌, ◌++◌}
 use Rattle.tools.specs.Tests.{pick}
 use Rattle.tools.specs.Reasons.{Reason, if_done}
-use Rattle.rules.specs.Numbers.{BadBook, given}
+use Rattle.rules.specs.declared.Refusal.TheVariants.{BadBook}
+use Rattle.rules.specs.Numbers.{given}
 use Rattle.rules.specs.Model.{Answer}
 use Rattle.rules.specs.Calls.{Call, alters, ring_of, reasons_of}
 use Rattle.book.specs.Codec.{decode}

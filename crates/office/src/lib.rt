@@ -4,125 +4,118 @@
 
 #![tactic(auto)]
 
-ghost use Rattle.std.specs.Prelude.{◌≡◌, true, length};
+ghost use Rattle.std.specs.Prelude.{◌≡◌, ◌≢◌, true, ℕ, List, length, Result, Ok, Err};
+ghost use Rattle.std.specs.Option.{unwrap_or};
+ghost use Rattle.std.specs.Result.{result_err};
+ghost use Rattle.std.specs.Fn.{FnOnceReturnsAt, FnOnceReturnsAtMut};
+ghost use Rattle.rules.specs.declared.Refusal.{Refusal};
+ghost use Rattle.rules.specs.declared.Refusal.TheVariants.{BadSummary};
 ghost use Rattle.tools.specs.Reasons.{first, if_done};
-ghost use Rattle.rules.specs.Setups.{setup_with};
+ghost use Rattle.rules.specs.Setups.{setup_in};
 ghost use Rattle.rules.specs.Model;
-ghost use Rattle.rules.specs.Model.{refusal};
 ghost use Rattle.rules.specs.Calls;
 ghost use Rattle.rules.specs.Calls.{on, ring_of};
-ghost use Rattle.rules.specs.Replies.{stamped_says, received_says, posted_says, blank, Beside, BesideLearnt, BesidePost};
-ghost use Rattle.rules.specs.declared.Kept.TheVariants as Keeps;
+ghost use Rattle.rules.specs.Replies.{number_in, done_says, stamped_says, received_says, sent_says};
 ghost use Rattle.book.specs.Sound.{sound};
 ghost use Rattle.book.specs.Codec.{decode};
 ghost use Rattle.summary.specs.Summary.{summary_size, summary_due, level, summary_with, summary_of};
-ghost use Rattle.office.specs.Papers.{together};
 ghost use Rattle.office.specs.Office.{folder, office_answer, folder_after};
 
-use rules::{Posted, Received, Sent, SetupNumbers, Stamped};
+use rules::{GivenSetup, Received, Refusal, Sent, Stamped};
 
-// The papers' number, 0 where every paper is ready: BadSummary, by the length alone.
-fn papers_number(summary: &[u8]) -> u8
-    ensures { result ≡ first (summary_due summary.now) }
+// Whether every paper is ready: BadSummary, by the length alone, or done.
+fn papers_number(summary: &[u8]) -> Result<(), Refusal>
+    ensures { number_in result ≡ first (summary_due summary.now) }
 {
     if summary.len() != summary::SUMMARY_BYTES {
-        return rules::BAD_SUMMARY;
+        return Err(Refusal::BadSummary);
     }
-    rules::DONE
+    Ok(())
 }
 
-// The number of a call whose papers are not ready: the book's reasons come first.
-fn first_number(book: u8, papers: u8) -> u8
-    ensures { result ≡ (together papers (refusal book)).number }
+// The papers after an accepted change, beside the book that it left: made anew.
+fn file(book: &[u8], summary: &mut [u8])
+    requires { (length summary.old ≡ summary_size) × (sound book.now ≡ true) }
+    ensures { summary.new ≡ summary_of ring_of (decode book.now) }
 {
-    if book != rules::DONE {
-        return book;
-    }
-    papers
+    summary::renew(book.as_array().unwrap(), summary.first_chunk_mut().unwrap());
 }
 
-// The number of a send's answer.
-fn posted_number(place: Posted) -> u8
-    ensures { result ≡ (posted_says place blank Keeps.No).number }
-{
-    match place {
-        Posted::At(_) => rules::DONE,
-        Posted::Refused(n) => n,
-    }
-}
-
-// The papers after a change that is answered a number, beside the book as it is left: made anew where it is accepted.
-fn file(number: u8, book: &[u8], summary: &mut [u8])
-    requires { (length summary.old ≡ summary_size) × (number ≡ 0 → sound book.now ≡ true) }
-    ensures { summary.new ≡ if_done number (summary_of ring_of (decode book.now)) summary.old }
-{
-    if number != rules::DONE {
-        return;
-    }
-    summary::renew(book, summary);
-}
-
-// The papers after a start that is answered a number: in a fresh book nothing lags.
-fn file_fresh(number: u8, summary: &mut [u8])
+// The papers after an accepted start: in a fresh book nothing lags.
+fn file_fresh(summary: &mut [u8])
     requires { length summary.old ≡ summary_size }
-    ensures { summary.new ≡ if_done number (summary_with (λ j. level)) summary.old }
+    ensures { summary.new ≡ summary_with (λ j. level) }
 {
-    if number != rules::DONE {
-        return;
-    }
-    summary::clear(summary);
+    summary::clear(summary.first_chunk_mut().unwrap());
 }
 
-// Start, with the papers beside the book.
-pub fn start(book: &mut [u8], summary: &mut [u8], s: SetupNumbers, limits: &[usize]) -> u8
-    ensures result_value { refusal result ≡ office_answer (folder book.old summary.old)
-        (Calls.start (setup_with s limits.now)) }
+// Start, with the papers beside the book. Its papers are those of a fresh book, so it is no call of change.
+pub fn start(book: &mut [u8], summary: &mut [u8], setup: GivenSetup<'_>) -> Result<(), Refusal>
+    ensures result_value { done_says result ≡ office_answer (folder book.old summary.old)
+        (Calls.start (setup_in setup.entry)) }
     ensures summary_after { folder book.new summary.new ≡ folder_after (folder book.old summary.old)
-        (Calls.start (setup_with s limits.now)) }
+        (Calls.start (setup_in setup.entry)) }
 {
-    let due = papers_number(&summary[..]);
-    if due != rules::DONE {
-        return first_number(refusals::start_number(&book[..], s, limits), due);
+    if let Err(due) = papers_number(&summary[..]) {
+        return Err(refusals::start_check(&book[..], setup).err().unwrap_or(due));
     }
-    let n = portal::start(book, s, limits);
-    file_fresh(n, summary);
-    n
+    portal::start(book, setup)?;
+    file_fresh(summary);
+    Ok(())
+}
+
+// A change, with the papers beside the book: a call where every paper is ready, else the book's check of it, whose reasons come first.
+fn change<
+    T,
+    U: Drop,
+    G: FnOnce(&[u8]) -> Result<U, Refusal>,
+    F: FnOnce(&mut [u8]) -> Result<T, Refusal>,
+>(book: &mut [u8], summary: &mut [u8], check: G, call: F) -> Result<T, Refusal>
+    requires checked { G.IsAlwaysCallable check }
+    requires called { F.IsAlwaysCallable call }
+    requires whole { (x : T) (b : List ℕ) → FnOnceReturnsAtMut F.FnOnce call book.old (Ok x) b → sound b ≡ true }
+    ensures unready { length summary.old ≢ summary_size → (g : Result U Refusal) × FnOnceReturnsAt G.FnOnce check book.old g
+        × (result ≡ Err (unwrap_or (result_err g) BadSummary)) × (book.new ≡ book.old) × (summary.new ≡ summary.old) }
+    ensures made { length summary.old ≡ summary_size → FnOnceReturnsAtMut F.FnOnce call book.old result book.new
+        × (summary.new ≡ if_done (number_in result) (summary_of ring_of (decode book.new)) summary.old) }
+{
+    if let Err(due) = papers_number(&summary[..]) {
+        return Err(check(&book[..]).err().unwrap_or(due));
+    }
+    let told = call(book)?;
+    file(&book[..], summary);
+    Ok(told)
 }
 
 // Local, with the papers beside the book.
-pub fn local(book: &mut [u8], summary: &mut [u8], desk: usize, keep: bool) -> Stamped
+pub fn local(
+    book: &mut [u8],
+    summary: &mut [u8],
+    desk: usize,
+    keep: bool,
+) -> Result<Stamped, Refusal>
     ensures result_value { stamped_says result ≡ office_answer (folder book.old summary.old) (on (Model.local desk keep)) }
-    ensures beside { Beside result.number result.stamp result.kept }
     ensures summary_after { folder book.new summary.new ≡ folder_after (folder book.old summary.old)
         (on (Model.local desk keep)) }
 {
-    let due = papers_number(&summary[..]);
-    if due != rules::DONE {
-        let grant = refusals::local_grant(&book[..], desk, keep);
-        return refusals::event_refused(first_number(grant.number, due));
-    }
-    let stamped = portal::local(book, desk, keep);
-    file(stamped.number, &book[..], summary);
-    stamped
+    let check = |b: &[u8]| refusals::local_grant(b, desk, keep);
+    change(book, summary, check, |b| portal::local(b, desk, keep))
 }
 
 // Send, with the papers beside the book.
-pub fn send(book: &mut [u8], summary: &mut [u8], desk: usize, to: usize, keep: bool) -> Sent
-    ensures kept_value { posted_says result.place result.stamp result.kept ≡ office_answer (folder book.old summary.old)
-        (on (Model.send desk to keep)) }
-    ensures beside_post { BesidePost result.place result.stamp result.kept }
+pub fn send(
+    book: &mut [u8],
+    summary: &mut [u8],
+    desk: usize,
+    to: usize,
+    keep: bool,
+) -> Result<Sent, Refusal>
+    ensures result_value { sent_says result ≡ office_answer (folder book.old summary.old) (on (Model.send desk to keep)) }
     ensures summary_after { folder book.new summary.new ≡ folder_after (folder book.old summary.old)
         (on (Model.send desk to keep)) }
 {
-    let due = papers_number(&summary[..]);
-    if due != rules::DONE {
-        let grant = refusals::send_grant(&book[..], desk, to, keep);
-        return refusals::send_refused(first_number(grant.number, due));
-    }
-    let sent = portal::send(book, desk, to, keep);
-    let place = sent.place;
-    file(posted_number(place), &book[..], summary);
-    sent
+    let check = |b: &[u8]| refusals::send_grant(b, desk, to, keep);
+    change(book, summary, check, |b| portal::send(b, desk, to, keep))
 }
 
 // Receive, with the papers beside the book.
@@ -132,66 +125,51 @@ pub fn receive(
     desk: usize,
     place: usize,
     keep: bool,
-) -> Received
+) -> Result<Received, Refusal>
     ensures result_value { received_says result ≡ office_answer (folder book.old summary.old) (on (Model.receive desk place keep)) }
-    ensures beside { Beside result.number result.stamp result.kept }
-    ensures beside_learnt { BesideLearnt result.number result.learnt }
     ensures summary_after { folder book.new summary.new ≡ folder_after (folder book.old summary.old)
         (on (Model.receive desk place keep)) }
 {
-    let due = papers_number(&summary[..]);
-    if due != rules::DONE {
-        let grant = refusals::receive_grant(&book[..], desk, place, keep);
-        return refusals::receive_refused(first_number(grant.number, due));
-    }
-    let received = portal::receive(book, desk, place, keep);
-    file(received.number, &book[..], summary);
-    received
+    let check = |b: &[u8]| refusals::receive_grant(b, desk, place, keep);
+    change(
+        book,
+        summary,
+        check,
+        |b| portal::receive(b, desk, place, keep),
+    )
 }
 
 // Reset, with the papers beside the book.
-pub fn reset(book: &mut [u8], summary: &mut [u8], desk: usize, keep: bool) -> Stamped
+pub fn reset(
+    book: &mut [u8],
+    summary: &mut [u8],
+    desk: usize,
+    keep: bool,
+) -> Result<Stamped, Refusal>
     ensures result_value { stamped_says result ≡ office_answer (folder book.old summary.old) (on (Model.reset desk keep)) }
-    ensures beside { Beside result.number result.stamp result.kept }
     ensures summary_after { folder book.new summary.new ≡ folder_after (folder book.old summary.old)
         (on (Model.reset desk keep)) }
 {
-    let due = papers_number(&summary[..]);
-    if due != rules::DONE {
-        let grant = refusals::reset_grant(&book[..], desk, keep);
-        return refusals::event_refused(first_number(grant.number, due));
-    }
-    let stamped = portal::reset(book, desk, keep);
-    file(stamped.number, &book[..], summary);
-    stamped
+    let check = |b: &[u8]| refusals::reset_grant(b, desk, keep);
+    change(book, summary, check, |b| portal::reset(b, desk, keep))
 }
 
 // Drop, with the papers beside the book: a lag may be lower without the stamp.
-pub fn drop(book: &mut [u8], summary: &mut [u8], slot: usize) -> u8
-    ensures result_value { refusal result ≡ office_answer (folder book.old summary.old) (on (Model.drop slot)) }
+pub fn drop(book: &mut [u8], summary: &mut [u8], slot: usize) -> Result<(), Refusal>
+    ensures result_value { done_says result ≡ office_answer (folder book.old summary.old) (on (Model.drop slot)) }
     ensures summary_after { folder book.new summary.new ≡ folder_after (folder book.old summary.old)
         (on (Model.drop slot)) }
 {
-    let due = papers_number(&summary[..]);
-    if due != rules::DONE {
-        return first_number(refusals::used_number(&book[..], parts::SHELF, slot), due);
-    }
-    let n = portal::drop(book, slot);
-    file(n, &book[..], summary);
-    n
+    let check = |b: &[u8]| refusals::used_check(b, parts::SHELF, slot);
+    change(book, summary, check, |b| portal::drop(b, slot))
 }
 
 // Discard, with the papers beside the book.
-pub fn discard(book: &mut [u8], summary: &mut [u8], place: usize) -> u8
-    ensures result_value { refusal result ≡ office_answer (folder book.old summary.old) (on (Model.discard place)) }
+pub fn discard(book: &mut [u8], summary: &mut [u8], place: usize) -> Result<(), Refusal>
+    ensures result_value { done_says result ≡ office_answer (folder book.old summary.old) (on (Model.discard place)) }
     ensures summary_after { folder book.new summary.new ≡ folder_after (folder book.old summary.old)
         (on (Model.discard place)) }
 {
-    let due = papers_number(&summary[..]);
-    if due != rules::DONE {
-        return first_number(refusals::used_number(&book[..], parts::MAIL, place), due);
-    }
-    let n = portal::discard(book, place);
-    file(n, &book[..], summary);
-    n
+    let check = |b: &[u8]| refusals::used_check(b, parts::MAIL, place);
+    change(book, summary, check, |b| portal::discard(b, place))
 }

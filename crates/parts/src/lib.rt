@@ -2,14 +2,15 @@
 
 #![tactic(auto)]
 
-ghost use Rattle.std.specs.Prelude.{◌≡◌, ◌+◌, ◌<◌, ◌≤◌, length};
+ghost use Rattle.std.specs.Prelude.{◌≡◌, [], ◌∷◌, ◌+◌, ◌<◌, ◌≤◌, length};
 ghost use Rattle.tools.specs.Lists.{byte};
 ghost use Rattle.rules.specs.Setups.{setup_with};
-ghost use Rattle.book.specs.Layout.{book_size, record_size, row_size, records, seats, phase_spot, clock_spot};
+ghost use Rattle.book.specs.Layout.{record_size, records, seats, phase_spot, clock_spot};
 ghost use Rattle.book.specs.Layout.{fields, limits_of, setup_of, phases_byte, mark0, mark1};
 ghost use Rattle.book.specs.Layout;
 ghost use Rattle.book.specs.Stamps.{filled};
 
+use ring::Pair;
 use rules::SetupNumbers;
 
 pub const HEAD_BYTES: usize = 16;
@@ -33,6 +34,9 @@ pub const SHELF: usize = MAIL + PLACES;
 pub const RECORDS: usize = SHELF + PLACES;
 
 pub const BOOK_BYTES: usize = HEAD_BYTES + RECORDS * RECORD_BYTES;
+
+// The bytes of a book.
+pub type BookBytes = [u8; BOOK_BYTES];
 
 // A record is a mark of two bytes, two tags and a row.
 pub const TAG_A: usize = 2;
@@ -102,155 +106,131 @@ pub fn clock_spot(j: usize) -> usize
 }
 
 // The setup numbers in the header; the limits stand in the seats.
-pub fn numbers_of(book: &[u8]) -> SetupNumbers
-    requires { length book.now ≡ book_size }
+pub fn numbers_of(book: &BookBytes) -> SetupNumbers
     ensures { setup_with result (limits_of book.now) ≡ setup_of book.now }
 {
     SetupNumbers {
-        desks: tools::wide(book[DESKS_AT]),
-        phases: tools::wide(last_phase(book)) + 1,
-        seat_lag: tools::wide(book[SEAT_LAG_AT]),
-        shelf_lag: tools::wide(book[SHELF_LAG_AT]),
-        back: tools::wide(book[BACK_AT]),
-        ahead: tools::wide(book[AHEAD_AT]),
+        desks: usize::from(book[DESKS_AT]),
+        phases: usize::from(last_phase(book)) + 1,
+        seat_lag: usize::from(book[SEAT_LAG_AT]),
+        shelf_lag: usize::from(book[SHELF_LAG_AT]),
+        back: usize::from(book[BACK_AT]),
+        ahead: usize::from(book[AHEAD_AT]),
     }
 }
 
-pub fn desks_of(book: &[u8]) -> usize
-    requires { length book.now ≡ book_size }
+pub fn desks_of(book: &BookBytes) -> usize
     ensures { result ≡ (setup_of book.now).desks }
 {
-    tools::wide(book[DESKS_AT])
+    usize::from(book[DESKS_AT])
 }
 
 // The last phase of the ring. It fits a byte where their number may not: the byte 0 tells 256 of them.
-pub fn last_phase(book: &[u8]) -> u8
-    requires { length book.now ≡ book_size }
+#[tactic(auto, unfolding(book::specs::Layout::phases_byte))]
+pub fn last_phase(book: &BookBytes) -> u8
     ensures { result + 1 ≡ (setup_of book.now).phases }
 {
-    std::num::wrapping_sub_u8(book[PHASES_AT], 1)
+    book[PHASES_AT].wrapping_sub(1)
 }
 
 // The header's byte for so many phases: 0 for 256 of them.
+#[tactic(auto, unfolding(book::specs::Layout::phases_byte))]
 pub fn phases_byte(phases: usize) -> u8
     requires { (1 ≤ phases) × (phases ≤ 256) }
     ensures { result ≡ phases_byte phases }
 {
-    if phases == 256 {
-        return 0;
-    }
-    phases as u8
+    u8::try_from(phases).unwrap_or(0)
 }
 
-pub fn seat_lag_of(book: &[u8]) -> u8
-    requires { length book.now ≡ book_size }
+pub fn seat_lag_of(book: &BookBytes) -> u8
     ensures { result ≡ (setup_of book.now).seat_lag }
 {
     book[SEAT_LAG_AT]
 }
 
-pub fn shelf_lag_of(book: &[u8]) -> u8
-    requires { length book.now ≡ book_size }
+pub fn shelf_lag_of(book: &BookBytes) -> u8
     ensures { result ≡ (setup_of book.now).shelf_lag }
 {
     book[SHELF_LAG_AT]
 }
 
-pub fn byte_at(book: &[u8], k: usize, c: usize) -> u8
-    requires book_len { length book.now ≡ book_size }
-    requires k_lt_records { (k < records) × (c < record_size) }
+pub fn byte_at(book: &BookBytes, k: usize, c: usize) -> u8
+    requires { (k < records) × (c < record_size) }
     ensures { result ≡ byte book.now (Layout.spot k c) }
 {
     book[spot(k, c)]
 }
 
-pub fn phase_at(book: &[u8], k: usize, j: usize) -> u8
-    requires book_len { length book.now ≡ book_size }
-    requires k_lt_records { (k < records) × (j < seats) }
+pub fn phase_at(book: &BookBytes, k: usize, j: usize) -> u8
+    requires { (k < records) × (j < seats) }
     ensures { result ≡ (((fields book.now).at k).row j).phase }
 {
     book[spot(k, ROW) + phase_spot(j)]
 }
 
-pub fn clock_at(book: &[u8], k: usize, j: usize) -> u8
-    requires book_len { length book.now ≡ book_size }
-    requires k_lt_records { (k < records) × (j < seats) }
+pub fn clock_at(book: &BookBytes, k: usize, j: usize) -> u8
+    requires { (k < records) × (j < seats) }
     ensures { result ≡ (((fields book.now).at k).row j).clock }
 {
     book[spot(k, ROW) + clock_spot(j)]
 }
 
-pub fn tag_a(book: &[u8], k: usize) -> u8
-    requires book_len { length book.now ≡ book_size }
-    requires k_lt_records { k < records }
+pub fn pair_at(book: &BookBytes, k: usize, j: usize) -> Pair
+    requires { (k < records) × (j < seats) }
+    ensures { result ≡ ((fields book.now).at k).row j }
+{
+    Pair {
+        phase: phase_at(book, k, j),
+        clock: clock_at(book, k, j),
+    }
+}
+
+pub fn tag_a(book: &BookBytes, k: usize) -> u8
+    requires { k < records }
     ensures { result ≡ ((fields book.now).at k).tag_a }
 {
     byte_at(book, k, TAG_A)
 }
 
-pub fn tag_b(book: &[u8], k: usize) -> u8
-    requires book_len { length book.now ≡ book_size }
-    requires k_lt_records { k < records }
+pub fn tag_b(book: &BookBytes, k: usize) -> u8
+    requires { k < records }
     ensures { result ≡ ((fields book.now).at k).tag_b }
 {
     byte_at(book, k, TAG_B)
 }
 
-pub fn first_mark(k: usize) -> u8
-    ensures { result ≡ mark0 k }
+// The mark of record k: a seat's, a mail place's or a shelf slot's.
+#[tactic(auto, unfolding(book::specs::Layout::mark0, book::specs::Layout::mark1))]
+pub fn mark(k: usize) -> [u8; 2]
+    ensures { result ≡ mark0 k ∷ mark1 k ∷ [] }
 {
     if k < SEATS {
-        return 0x53;
-    }
-    if k < SHELF {
-        return 0x4D;
-    }
-    0x53
-}
-
-pub fn second_mark(k: usize) -> u8
-    ensures { result ≡ mark1 k }
-{
-    if k < SEATS {
-        return 0x45;
-    }
-    if k < SHELF {
-        return 0x41;
-    }
-    0x48
-}
-
-fn fill_row(part: &mut [u8], row: [u8; 16])
-    requires { length part.old ≡ row_size }
-    ensures { part.new ≡ row }
-{
-    let mut i: usize = 0;
-    while i < ROW_BYTES {
-        part[i] = row[i];
-        i += 1;
+        *b"SE"
+    } else if k < SHELF {
+        *b"MA"
+    } else {
+        *b"SH"
     }
 }
 
-pub fn post(book: &mut [u8], k: usize, x: u8, y: u8, row: [u8; 16])
-    requires book_len { length book.old ≡ book_size }
-    requires k_lt_records { k < records }
+#[tactic(auto, unfolding(book::specs::Layout::post, tools::specs::Lists::mid))]
+pub fn post(book: &mut BookBytes, k: usize, x: u8, y: u8, row: [u8; 16])
+    requires { k < records }
     ensures { book.new ≡ Layout.post book.old k x y row }
 {
     let a = spot(k, ROW);
     let e = a + ROW_BYTES;
-    fill_row(&mut book[a..e], row);
+    let part = &mut book[a..e];
+    part.copy_from_slice(&row);
     book[spot(k, TAG_A)] = x;
     book[spot(k, TAG_B)] = y;
 }
 
 // Bytes are written in front of a lent buffer, the rest of it as it was.
+#[tactic(auto, unfolding(book::specs::Stamps::filled))]
 pub fn lend(target: &mut [u8], bytes: &[u8])
     requires { length bytes.now ≤ length target.old }
     ensures { target.new ≡ filled target.old bytes.now }
 {
-    let mut i: usize = 0;
-    while i < bytes.len() {
-        target[i] = bytes[i];
-        i += 1;
-    }
+    target[..bytes.len()].copy_from_slice(bytes);
 }

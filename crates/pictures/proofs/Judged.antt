@@ -1,82 +1,114 @@
--- The lowest number that is found, one after the other, the last one first.
+-- The lowest number that is found, one after the other, the first one first.
 -- Assumes nothing.
---   First n k p m     of the numbers from k on and below n that p holds of m is the lowest; n where there is none
---   first_none, first_more, first_all   of none yet, of one more, of all
---   any_lowest        some number is found exactly where the lowest is one of them
---   second_more       what goes with the lowest number
---   far_down, far_all   of numbers from k on p does not hold: one more of them, and all
---   or_yes, or_no     a test that holds where either does, asked one after the other
+--   found_none, found_more   of none yet, of one more
+--   found_below       what is found is below the number of those looked at
+--   odds_found        the desk of a place and the lowest that it is at odds with, by whether there is one
+--   err_only, ok_only   an answer that is OutOfReach or a value is which of the two
+--   is_far, is_near   and so it is answered
 use Prim.Native.Nat.{ℕ, ◌+◌, ◌≤◌, ◌<◌}
-use mathlib.Core.Path.{◌≡◌, sym, ap, ◌∙◌}
-use mathlib.Core.Bool.{Bool, true, false, ◌||◌}
+use mathlib.Core.Path.{◌≡◌, refl, sym, ap, ◌∙◌}
+use mathlib.Core.Bool.{Bool, true, false, true≢false}
 use mathlib.Core.Logic.{◌⊎◌, inl, inr}
 use native.Mathlib.Omega.{arith}
 use borrow.Author.Tests.{lt-ltb, le-ltb}
 use lib.Dec.{ltb}
+use Rattle.std.specs.Prelude.{Option, Some, None, Result, Ok, Err, IfSome}
+use Rattle.std.specs.Option.{option_or}
+use Rattle.std.specs.Bool.{then_some}
 use Rattle.tools.specs.Tests.{pick, any, lowest}
-use Rattle.tools.proofs.Tests.{lt_or_le, eq_or_ne, any_at, none_any, lowest_at, lowest_none, lowest_is}
+use Rattle.tools.proofs.Tests.{lt_or_le, any_at, none_any, lowest_at, lowest_none, lowest_is}
+use Rattle.rules.specs.declared.Odds.{Odds}
+use Rattle.rules.specs.declared.Refusal.{Refusal}
+use Rattle.rules.specs.declared.Refusal.TheVariants.{OutOfReach}
+use Rattle.pictures.specs.Pairs.{found, odds_with}
 
-abbrev pub First : ℕ → ℕ → (ℕ → Bool) → ℕ → Type 0
-First n k p m = (k ≤ m) × (m ≤ n) × (m < n → p m ≡ true) × ((i : ℕ) → k ≤ i → i < m → p i ≡ false)
+module _ {A : Type 0} (f : ℕ → A) (p : ℕ → Bool) where
+  pub found_none : (n : ℕ) → ((i : ℕ) → i < n → p i ≡ false) → found n p f ≡ None
+  found_none n h = ap (λ (t : Bool). pick t (Some (f (lowest n p))) None) (le-ltb (lowest n p) n (omega (arith, lowest_none n p h)))
+
+  found_at : (n i : ℕ) → lowest n p ≡ i → i < n → found n p f ≡ Some (f i)
+  found_at n i e l =
+      ap (λ (t : Bool). pick t (Some (f (lowest n p))) None) (lt-ltb (lowest n p) n (omega (arith, e, l)))
+      ∙ ap (λ (m : ℕ). Some (f m)) e
+
+  pub found_more : (n : ℕ) → option_or (found n p f) (then_some (p n) (f n)) ≡ found (n + 1) p f
+  found_more n = go (lt_or_le (lowest n p) n)
+    where
+      low : (n ≤ lowest n p) → (i : ℕ) → i < n → p i ≡ false
+      low l i m = (lowest_is n p).2 i (omega arith)
+
+      all : (n ≤ lowest n p) → p n ≡ false → (i : ℕ) → i < n + 1 → p i ≡ false
+      all l e i m = by (lt_or_le i n)
+        where
+          by : (i < n) ⊎ (n ≤ i) → p i ≡ false
+          by (inl a) = low l i a
+          by (inr a) = let q : i ≡ n = omega arith in ap p q ∙ e
+
+      next : (n ≤ lowest n p) → (t : Bool) → p n ≡ t → then_some t (f n) ≡ found (n + 1) p f
+      next l true e = sym (found_at (n + 1) n (lowest_at (n + 1) p n (omega arith) (low l) e) (omega arith))
+      next l false e = sym (found_none (n + 1) (all l e))
+
+      go : (lowest n p < n) ⊎ (n ≤ lowest n p) → option_or (found n p f) (then_some (p n) (f n)) ≡ found (n + 1) p f
+      go (inl l) =
+          ap (λ (o : Option A). option_or o (then_some (p n) (f n))) (found_at n (lowest n p) refl l)
+          ∙ sym (found_at (n + 1) (lowest n p)
+          (lowest_at (n + 1) p (lowest n p) (omega (arith, l)) (lowest_is n p).2 ((lowest_is n p).1 l)) (omega (arith, l)))
+      go (inr l) =
+          ap (λ (o : Option A). option_or o (then_some (p n) (f n))) (found_none n (low l)) ∙ next l (p n) refl
 
 module _ (n : ℕ) (p : ℕ → Bool) where
-  pub first_none : First n n p n
-  first_none = (omega arith, omega arith, λ l. absurd (omega arith), λ i a b. absurd (omega arith))
-
-  pub first_more : (k m : ℕ) (t : Bool) → k < n → First n (k + 1) p m → t ≡ p k → First n k p (pick t k m)
-  first_more k m true l f q = (omega arith, omega arith, λ b. sym q, λ i a b. absurd (omega arith))
-  first_more k m false l f q = let a = f.0 in (omega arith, f.1, f.2, λ i b c. go i b c (eq_or_ne i k))
+  pub found_below : n ≤ 8 → IfSome (found n p (λ k. k)) (λ k. k < 256)
+  found_below b = go (ltb (lowest n p) n) (lowest_is n p).0
     where
-      go : (i : ℕ) → k ≤ i → i < m → (i ≡ k) ⊎ (i ≡ k → ⊥) → p i ≡ false
-      go i b c (inl e) = ap p e ∙ sym q
-      go i b c (inr ne) = f.3 i (omega arith) c
+      go : (t : Bool) → lowest n p ≤ n → IfSome (pick t (Some (lowest n p)) None) (λ k. k < 256)
+      go true l = omega (arith, l, b)
+      go false l = tt
 
-  pub first_all : (k m : ℕ) → First n k p m → ((i : ℕ) → i < k → p i ≡ false) → m ≡ lowest n p
-  first_all k m f g = sym (go (lt_or_le m n))
-    where
-      low : (i : ℕ) → i < m → p i ≡ false
-      low i l = by (lt_or_le i k)
-        where
-          by : (i < k) ⊎ (k ≤ i) → p i ≡ false
-          by (inl a) = g i a
-          by (inr a) = f.3 i a l
-
-      go : (m < n) ⊎ (n ≤ m) → lowest n p ≡ m
-      go (inl l) = lowest_at n p m l low (f.2 l)
-      go (inr l) = let e : n ≡ m = (let b = f.1 in omega arith) in lowest_none n p (λ i a. low i (omega arith)) ∙ e
-
-  pub any_lowest : any n p ≡ ltb (lowest n p) n
+  any_lowest : any n p ≡ ltb (lowest n p) n
   any_lowest = go (lt_or_le (lowest n p) n)
     where
       go : (lowest n p < n) ⊎ (n ≤ lowest n p) → any n p ≡ ltb (lowest n p) n
       go (inl l) = any_at n p (lowest n p) l ((lowest_is n p).1 l) ∙ sym (lt-ltb _ _ l)
       go (inr l) = none_any n p (λ i m. (lowest_is n p).2 i (omega arith)) ∙ sym (le-ltb _ _ l)
 
--- numbers from k on of which p does not hold, one more of them, and all
-pub far_down : (p : ℕ → Bool) (k n : ℕ) → p k ≡ false → ((i : ℕ) → k + 1 ≤ i → i < n → p i ≡ false)
-    → (i : ℕ) → k ≤ i → i < n → p i ≡ false
-far_down p k n e f i a b = go (eq_or_ne i k)
-  where
-    go : (i ≡ k) ⊎ (i ≡ k → ⊥) → p i ≡ false
-    go (inl q) = ap p q ∙ e
-    go (inr ne) = f i (omega arith) b
+  pub odds_found : (i : ℕ) (o : Option ℕ) → o ≡ found n p (λ k. k)
+      → odds_with i o ≡ then_some (any n p) (record { lower = i; higher = lowest n p })
+  odds_found i o e = ap (odds_with i) e ∙ go (ltb (lowest n p) n) ∙ ap (λ (t : Bool). then_some t (odds i)) (sym any_lowest)
+    where
+      odds : ℕ → Odds
+      odds i = record { lower = i; higher = lowest n p }
 
-pub far_all : (p : ℕ → Bool) (k n : ℕ) → ((i : ℕ) → i < k → p i ≡ false) → ((i : ℕ) → k ≤ i → i < n → p i ≡ false)
-    → any n p ≡ false
-far_all p k n f g = none_any n p (λ i l. go i l (lt_or_le i k))
-  where
-    go : (i : ℕ) → i < n → (i < k) ⊎ (k ≤ i) → p i ≡ false
-    go i l (inl a) = f i a
-    go i l (inr a) = g i a l
+      go : (t : Bool) → odds_with i (pick t (Some (lowest n p)) None) ≡ then_some t (odds i)
+      go true = refl
+      go false = refl
 
-pub or_yes : (t u r : Bool) → r ≡ t → r ≡ true → true ≡ (t || u)
-or_yes t u r e h = ap (λ b. b || u) (sym h ∙ e)
+-- an answer that is OutOfReach or the value y
+module _ {A : Type 0} (y : A) where
+  is_ok : Result A Refusal → Bool
+  is_ok (Ok x) = true
+  is_ok (Err r) = false
 
-pub or_no : (t u r q : Bool) → r ≡ t → r ≡ false → q ≡ u → q ≡ (t || u)
-or_no t u r q e h f = f ∙ ap (λ b. b || u) (sym h ∙ e)
+  value : Result A Refusal → A
+  value (Ok x) = x
+  value (Err r) = y
 
--- what goes with the lowest number, f of it: that of the one that is found first
-pub second_more : (f : ℕ → ℕ) (n i o m h m' h' : ℕ) (t : Bool) → m' ≡ pick t i m → h' ≡ pick t o h → o ≡ f i → (m < n → h ≡ f m)
-    → m' < n → h' ≡ f m'
-second_more f n i o m h m' h' true a b e g l = b ∙ e ∙ ap f (sym a)
-second_more f n i o m h m' h' false a b e g l = b ∙ g (omega arith) ∙ ap f (sym a)
+  reason : Result A Refusal → Refusal
+  reason (Ok x) = OutOfReach
+  reason (Err r) = r
+
+  pub err_only : (t : Bool) (r : Refusal) → Err r ≡ pick t (Err OutOfReach) (Ok y) → (t ≡ true) × (r ≡ OutOfReach)
+  unfolding is_ok reason
+  err_only true r e = (refl, ap reason e)
+  err_only false r e = absurd (true≢false (sym (ap is_ok e)))
+
+  pub ok_only : (t : Bool) (x : A) → Ok x ≡ pick t (Err OutOfReach) (Ok y) → (t ≡ false) × (x ≡ y)
+  unfolding value is_ok
+  ok_only true x e = absurd (true≢false (ap is_ok e))
+  ok_only false x e = (refl, ap value e)
+
+  pub is_far : (n : ℕ) (p : ℕ → Bool) (i : ℕ) → i < n → p i ≡ true
+      → Err OutOfReach ≡ pick (any n p) (Err OutOfReach) (Ok y)
+  is_far n p i l e = ap (λ (t : Bool). pick t (Err OutOfReach) (Ok y)) (sym (any_at n p i l e))
+
+  pub is_near : (t : Bool) (x : A) → t ≡ false → x ≡ y → Ok x ≡ pick t (Err OutOfReach) (Ok y)
+  is_near t x e h = ap Ok h ∙ ap (λ (t : Bool). pick t (Err OutOfReach) (Ok y)) (sym e)

@@ -1,6 +1,5 @@
 -- Laws of the stamps of a list.
 pub mod Reached
-pub mod Tabled
 pub mod Ways
 pub mod Placed
 pub mod Judged

@@ -1,6 +1,5 @@
 -- The least and the largest lag within reach, and which of two pairs is later, over plain numbers.
 -- Assumes nothing.
---   most_below, most_above   the largest lag, up to 255 and above
 --   band_near   a lag is below the least or above the largest exactly where it is out of reach
 --   later_if    at equal lags the clocks decide, else the lags
 use Prim.Native.Nat.{ℕ, ◌+◌, ◌-◌, ◌≤◌, ◌<◌}
@@ -33,12 +32,6 @@ not_both false b = refl
 out_is : (t : Bool) (d : Gap) → is_out (pick t (some d) none) ≡ not t
 out_is true d = refl
 out_is false d = refl
-
-pub most_below : (up back r : ℕ) → up + back < 256 → r ≡ up + back - 1 → r ≡ most_by up back
-most_below up back r l e = e ∙ ap (λ t. pick t (up + back - 1) 255) (sym (lt-ltb (up + back) 256 l))
-
-pub most_above : (up back r : ℕ) → 256 ≤ up + back → r ≡ 255 → r ≡ most_by up back
-most_above up back r l e = e ∙ ap (λ t. pick t (up + back - 1) 255) (sym (le-ltb (up + back) 256 l))
 
 module _ (up down : ℕ) where
   least_is : (ahead : ℕ) → ltb down (up + 1 - ahead) ≡ not (ltb up (down + ahead))

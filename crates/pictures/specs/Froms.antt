@@ -3,20 +3,16 @@
 --   most_by up r      the largest lag below up + r, 255 where that is larger: no lag is
 --   from_of s k       of the stamp in slot k of the bytes s: its owner, the owner's phase, how far its own pair lags and its clock; the
 --                     least and the largest lag of another stamp's pair that is within reach
---   parts_of f        these six, in this order
---   table_of s l x    number x of the table of the list l: part x / 8 of its stamp x % 8
 --   Table s l n t     the table t has the first n stamps of the list l
 --   Ready s l         the bytes s are sound, and the list l names at most eight slots, all used
---   Places s l t i k  the same with the table t of the list, and two of its places
 --   lag_to s l i k    how far the pair for the desk of the list's i-th stamp lags in its k-th
---   beyond t i d      by the table t, the lag d is out of reach from the i-th stamp
+--   beyond f d        by what the ways from a stamp share, f, the lag d is out of reach from it
 --   more_to s l i k   the k-th stamp knows more of the desk of the i-th
-use Rattle.std.specs.Prelude.{ℕ, ◌+◌, ◌-◌, ◌/◌, ◌%◌, ◌<◌, ◌≤◌, ◌≡◌, Bool, true, false, ◌||◌, List, [], ◌∷◌, ltb, eqb, length}
+use Rattle.std.specs.Prelude.{ℕ, ◌+◌, ◌-◌, ◌<◌, ◌≤◌, ◌≡◌, Bool, true, false, ◌||◌, List, ltb, eqb, length, get_or}
 use Rattle.tools.specs.Tests.{pick}
-use Rattle.tools.specs.Lists.{byte}
 use Rattle.rules.specs.Model.{by_in, no_slot, reach_back, knows_more, chosen}
 use Rattle.rules.specs.Calls.{ring_of}
-use Rattle.book.specs.Layout.{book_size, shelf_from, setup_of, row_at}
+use Rattle.book.specs.Layout.{shelf_from, setup_of, row_at}
 use Rattle.book.specs.Sound.{sound}
 use Rattle.book.specs.Numbers.{tables_of}
 use Rattle.reasons.specs.Held.{lag_in}
@@ -39,33 +35,20 @@ from_of s k =
       most = most_by up (reach_back (setup_of s) (eqb clock 0));
     }
 
-abbrev pub parts_of : From → List ℕ
-parts_of f = f.owner ∷ f.own ∷ f.up ∷ f.clock ∷ f.least ∷ f.most ∷ []
-
-unfoldable pub table_of : List ℕ → List ℕ → ℕ → ℕ
-table_of s l x = byte (parts_of (from_of s (chosen l (x % 8)))) (x / 8)
-
-pub record Table (s l : List ℕ) (n : ℕ) (t : List ℕ) : Type 0 where
-  pub size : length t ≡ 48
-  pub at : (x : ℕ) → x < 48 → x % 8 < n → byte t x ≡ table_of s l x
+pub record Table (s l : List ℕ) (n : ℕ) (t : List From) : Type 0 where
+  pub size : length t ≡ 8
+  pub at : (i : ℕ) (d : From) → i < n → get_or t i d ≡ from_of s (chosen l i)
 
 pub record Ready (s l : List ℕ) : Type 0 where
-  pub size : length s ≡ book_size
   pub whole : sound s ≡ true
   pub few : length l ≤ 8
   pub used : (i : ℕ) → i < length l → no_slot (tables_of s) (chosen l i) ≡ false
 
-pub record Places (s l t : List ℕ) (i k : ℕ) : Type 0 where
-  pub ready : Ready s l
-  pub table : Table s l (length l) t
-  pub first : i < length l
-  pub second : k < length l
-
 abbrev pub lag_to : List ℕ → List ℕ → ℕ → ℕ → ℕ
 lag_to s l i k = lag_in s (by_in ((tables_of s).shelf (chosen l i))) (shelf_from + chosen l k)
 
-abbrev pub beyond : List ℕ → ℕ → ℕ → Bool
-beyond t i d = ltb d (byte t (32 + i)) || ltb (byte t (40 + i)) d
+abbrev pub beyond : From → ℕ → Bool
+beyond f d = ltb d f.least || ltb f.most d
 
 abbrev pub more_to : List ℕ → List ℕ → ℕ → ℕ → Bool
 more_to s l i k = knows_more (ring_of (setup_of s)) (tables_of s) (chosen l i) (chosen l k)

@@ -1,16 +1,19 @@
 -- What every two stamps of a list show.
 -- Assumes nothing.
 --   far s l, odd s l   two places of the list l, the lower first: a stamp is out of reach from the other; the desks are at odds
---   PairsOf s l i r    r tells whether one of the pairs of place i with a higher one is out of reach, and else the lowest at odds with it
---   Pairs s l r        r tells whether any two are out of reach, and else the lowest two at odds
-use Rattle.std.specs.Prelude.{ℕ, ◌<◌, ◌≡◌, Bool, false, List, length}
-use Rattle.tools.specs.Tests.{any, lowest}
-use Rattle.rules.specs.Model.{too_far, at_odds, of_two, first_odd, second_odd}
+--   found n p f        what goes with the lowest number below n that p holds of, by f; none where there is none
+--   odds_with i o      the desk i and the one of o; odds s l i, and the lowest that it is at odds with
+--   pairs_of s l i     OutOfReach where one of the pairs of place i with a higher one is out of reach, else the lowest at odds with it
+--   pairs s l          OutOfReach where any two are out of reach, else the lowest two at odds
+use Rattle.std.specs.Prelude.{ℕ, Bool, List, length, ltb, Option, None, Some, Result, Ok, Err}
+use Rattle.tools.specs.Tests.{pick, any, lowest}
+use Rattle.rules.specs.declared.Odds.{Odds}
+use Rattle.rules.specs.declared.Refusal.{Refusal}
+use Rattle.rules.specs.declared.Refusal.TheVariants.{OutOfReach}
+use Rattle.rules.specs.Model.{too_far, at_odds, of_two}
 use Rattle.rules.specs.Calls.{ring_of}
 use Rattle.book.specs.Layout.{setup_of}
 use Rattle.book.specs.Numbers.{tables_of}
-use Rattle.pictures.specs.declared.Row.{Row}
-use Rattle.pictures.specs.declared.Found.{Found}
 
 abbrev pub far : List ℕ → List ℕ → ℕ → ℕ → Bool
 far s l = of_two (too_far (ring_of (setup_of s)) (setup_of s) (tables_of s)) l
@@ -18,11 +21,20 @@ far s l = of_two (too_far (ring_of (setup_of s)) (setup_of s) (tables_of s)) l
 abbrev pub odd : List ℕ → List ℕ → ℕ → ℕ → Bool
 odd s l = of_two (at_odds (ring_of (setup_of s)) (tables_of s)) l
 
-pub record PairsOf (s l : List ℕ) (i : ℕ) (r : Row) : Type 0 where
-  pub out : r.out ≡ any (length l) (far s l i)
-  pub odd : r.out ≡ false → r.odd ≡ lowest (length l) (odd s l i)
+abbrev pub found : {A : Type 0} → ℕ → (ℕ → Bool) → (ℕ → A) → Option A
+found n p f = pick (ltb (lowest n p) n) (Some (f (lowest n p))) None
 
-pub record Pairs (s l : List ℕ) (r : Found) : Type 0 where
-  pub out : r.out ≡ any (length l) (λ i. any (length l) (far s l i))
-  pub lower : r.out ≡ false → r.lower ≡ first_odd (ring_of (setup_of s)) (tables_of s) l
-  pub higher : r.out ≡ false → r.lower < length l → r.higher ≡ second_odd (ring_of (setup_of s)) (tables_of s) l
+abbrev pub odds_with : ℕ → Option ℕ → Option Odds
+odds_with i None = None
+odds_with i (Some k) = Some record { lower = i; higher = k }
+
+abbrev pub odds : List ℕ → List ℕ → ℕ → Odds
+odds s l i = record { lower = i; higher = lowest (length l) (odd s l i) }
+
+abbrev pub pairs_of : List ℕ → List ℕ → ℕ → Result (Option ℕ) Refusal
+pairs_of s l i = pick (any (length l) (far s l i)) (Err OutOfReach) (Ok (found (length l) (odd s l i) (λ k. k)))
+
+abbrev pub pairs : List ℕ → List ℕ → Result (Option Odds) Refusal
+pairs s l =
+    pick (any (length l) (λ i. any (length l) (far s l i))) (Err OutOfReach)
+    (Ok (found (length l) (λ i. any (length l) (odd s l i)) (odds s l)))

@@ -27,7 +27,8 @@ use Rattle.tools.proofs.Tests.{and_true_l, and_true_r}
 use Rattle.tools.proofs.Largest.{largest_cong}
 use Rattle.ring.specs.Phases.{Phases}
 use Rattle.rules.specs.Setups.{Setup}
-use Rattle.rules.specs.Numbers.{BadBook, BadSummary, number}
+use Rattle.rules.specs.declared.Refusal.TheVariants.{BadBook, BadSummary}
+use Rattle.rules.specs.Numbers.{number}
 use Rattle.rules.specs.Model.{Held, Tables, Question, ask_before, ask_compare, ask_picture, ask_show, ask_write}
 use Rattle.rules.specs.Model.{local, reset, send, receive, drop, discard, ask, Answer, refusal, accepted, foretells, ask_reasons, reasons}
 use Rattle.rules.specs.Calls.{Book, Call, start, on, alters, ring_of, line_of, reasons_of, call}

@@ -16,7 +16,8 @@ use Rattle.tools.proofs.Tables.{put_same, some_is, none_some}
 use Rattle.ring.specs.Phases.{Pair, ring}
 use Rattle.rules.specs.Model.{Row, Seat, Held, Tables, Label, Question, slot_asked, Value}
 use Rattle.rules.specs.Model.{Act, local, reset, send, receive, drop, discard, ask, before, compare, write, slot_of}
-use Rattle.rules.specs.Numbers.{BadBook, number}
+use Rattle.rules.specs.declared.Refusal.TheVariants.{BadBook}
+use Rattle.rules.specs.Numbers.{number}
 use Rattle.rules.specs.Model.{Answer, refusal, by_in, row_in, used, why, ask_tells, done, step, settle}
 use Rattle.book.specs.Fits.{PairFits, RowFits, SlotFits, Fits}
 use Rattle.rules.specs.Setups.{Setup, limit, permits}

@@ -1,2 +1,3 @@
 -- The laws of the reasons.
 pub mod Held
+pub mod Found

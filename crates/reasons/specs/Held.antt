@@ -2,13 +2,14 @@
 -- Assumes nothing.
 --   held_at s a p     what the p-th of the records from record a on holds; the mail is at mail_from, the shelf at shelf_from
 --   used_at s a p     it is one of the 32, and used
---   free_from s a     the lowest free one, 32 where there is none
+--   free_from s a     the lowest free one, 32 where there is none; free_place s a, the same, none where there is none
 --   lag_in s j k      how far the entry for desk j in record k lags
 --   lags_at s j B a p it is used and its entry for desk j lags just B
 --   behind_from s j B a   some one of them does
 --   seat_lags_at s j k     desk k is another than j, and its seat's entry for desk j lags M
 --   seats_behind s j      some desk's seat does
-use Rattle.std.specs.Prelude.{ℕ, ◌+◌, Bool, not, ◌&&◌, List, ltb}
+use Rattle.std.specs.Prelude.{ℕ, ◌+◌, Bool, not, ◌&&◌, List, ltb, Some, None}
+use Rattle.std.specs.Prelude as Std
 use Rattle.std.proofs.Math.Option.{Option, none}
 use Rattle.tools.specs.Tests.{pick, any, lowest}
 use Rattle.ring.specs.Phases.{lag_of}
@@ -26,6 +27,9 @@ used_at s a p = used (held_at s a p) && ltb p places
 
 abbrev pub free_from : List ℕ → ℕ → ℕ
 free_from s a = lowest places (λ p. not (used (held_at s a p)))
+
+abbrev pub free_place : List ℕ → ℕ → Std.Option ℕ
+free_place s a = pick (ltb (free_from s a) places) (Some (free_from s a)) None
 
 abbrev pub lags_at : List ℕ → ℕ → ℕ → ℕ → ℕ → Bool
 lags_at s j B a p = lags (ring_of (setup_of s)) (tables_of s) j B (held_at s a p)

@@ -3,157 +3,120 @@
 
 #![tactic(auto)]
 
-ghost use Rattle.std.specs.Prelude.{◌≡◌, true, not, ◌*◌, ◌<◌, ◌≤◌, ltb, eqb, length};
-ghost use Rattle.rules.specs.Model;
+ghost use Rattle.std.specs.Prelude.{◌≡◌, true, not, ◌*◌, ◌<◌, ◌≤◌, ltb, eqb};
 ghost use Rattle.rules.specs.Model.{no_desk, at_limit, to_in};
-ghost use Rattle.book.specs.Layout.{book_size, records, shelf_from, mail_from, seats, places, setup_of};
+ghost use Rattle.book.specs.Layout.{records, shelf_from, mail_from, seats, places, setup_of};
 ghost use Rattle.book.specs.Numbers.{tables_of};
-ghost use Rattle.rows.specs.Rows.{AtDesk};
-ghost use Rattle.reasons.specs.Held.{used_at, free_from, lag_in, lags_at, behind_from, seat_lags_at, seats_behind};
+ghost use Rattle.reasons.specs.Held.{used_at, free_from, free_place, lag_in, lags_at, behind_from, seat_lags_at, seats_behind};
+
+use parts::BookBytes;
+use rows::Desk;
 
 // NoDesk: the number is D or more.
-pub fn no_desk(book: &[u8], desk: usize) -> bool
-    requires { length book.now ≡ book_size }
+pub fn no_desk(book: &BookBytes, desk: usize) -> bool
     ensures { result ≡ no_desk (setup_of book.now) desk }
 {
-    !(desk < parts::desks_of(book))
+    desk >= parts::desks_of(book)
 }
 
 // Whether a place or slot is below 32 and used; first is the record of place or slot 0.
-pub fn is_used(book: &[u8], first: usize, place: usize) -> bool
-    requires book_len { length book.now ≡ book_size }
-    requires first_le_shelf_from { first ≤ shelf_from }
+pub fn is_used(book: &BookBytes, first: usize, place: usize) -> bool
+    requires { first ≤ shelf_from }
     ensures { result ≡ used_at book.now first place }
 {
-    if parts::PLACES <= place {
-        return false;
-    }
-    parts::tag_a(book, first + place) != parts::FREE
+    place < parts::PLACES && parts::tag_a(book, first + place) != parts::FREE
 }
 
 // NotYours: a waiting mail is addressed to another desk.
-pub fn not_yours(book: &[u8], desk: usize, place: usize) -> bool
-    requires at_desk { AtDesk book.now desk }
-    requires place_lt_places { (place < places) × (used_at book.now mail_from place ≡ true) }
-    ensures { result ≡ not (eqb (to_in ((tables_of book.now).mail place)) desk) }
+#[tactic(auto, using(crate::proofs::Held::addressed))]
+pub fn not_yours(desk: Desk<'_>, place: usize) -> bool
+    requires { (place < places) × (used_at desk.book.now mail_from place ≡ true) }
+    ensures { result ≡ not (eqb (to_in ((tables_of desk.entry.book.now).mail place)) desk.entry.number) }
 {
-    tools::wide(parts::tag_b(book, parts::MAIL + place)) != desk + 1
+    usize::from(parts::tag_b(desk.book, parts::MAIL + place)) != desk.number + 1
 }
 
 // PhaseFull: the desk's own clock is at its last value, by the limit in its seat.
-pub fn phase_full(book: &[u8], desk: usize) -> bool
-    requires { AtDesk book.now desk }
-    ensures { result ≡ at_limit (setup_of book.now) (tables_of book.now) desk }
+#[tactic(auto, using(book::proofs::Told::own_at, book::proofs::Codec::limit_seen))]
+pub fn phase_full(desk: Desk<'_>) -> bool
+    ensures { result ≡ at_limit (setup_of desk.entry.book.now) (tables_of desk.entry.book.now) desk.entry.number }
 {
-    !(tools::wide(parts::clock_at(book, desk, desk)) + 1 < tools::wide(parts::tag_b(book, desk)))
+    let clock = parts::clock_at(desk.book, desk.number, desk.number);
+    usize::from(clock) + 1 >= usize::from(parts::tag_b(desk.book, desk.number))
 }
 
-// The lowest free one of the 32 places or slots, 32 where there is none; first is the record of place or slot 0.
-pub fn free_from(book: &[u8], first: usize) -> usize
-    requires book_len { length book.now ≡ book_size }
-    requires first_le_shelf_from { first ≤ shelf_from }
-    ensures { result ≡ free_from book.now first }
+// The lowest free one of the 32 places or slots; first is the record of place or slot 0.
+pub fn free_from(book: &BookBytes, first: usize) -> Option<usize>
+    requires { first ≤ shelf_from }
+    ensures { result ≡ free_place book.now first }
 {
-    let mut p: usize = 0;
-    while p < parts::PLACES {
-        if !is_used(book, first, p) {
-            return p;
-        }
-        p += 1;
-    }
-    parts::PLACES
+    (0..parts::PLACES).find(|p| !is_used(book, first, *p))
 }
 
 // MailFull: no place is free.
-pub fn mail_full(book: &[u8]) -> bool
-    requires { length book.now ≡ book_size }
+pub fn mail_full(book: &BookBytes) -> bool
     ensures { result ≡ not (ltb (free_from book.now mail_from) places) }
 {
-    !(free_from(book, parts::MAIL) < parts::PLACES)
+    free_from(book, parts::MAIL).is_none()
 }
 
-fn lag_at(book: &[u8], desk: usize, row: usize) -> usize
-    requires at_desk { AtDesk book.now desk }
-    requires row_lt_records { row < records }
-    ensures { result ≡ lag_in book.now desk row }
+#[tactic(auto, using(ring::proofs::Ring::lag_by_last, book::proofs::Below::phase_below))]
+fn lag_at(desk: Desk<'_>, row: usize) -> usize
+    requires { row < records }
+    ensures { result ≡ lag_in desk.entry.book.now desk.entry.number row }
 {
-    tools::wide(ring::lag(
-        parts::phase_at(book, desk, desk),
-        parts::phase_at(book, row, desk),
-        parts::last_phase(book),
-    ))
+    let own = parts::phase_at(desk.book, desk.number, desk.number);
+    let told = parts::phase_at(desk.book, row, desk.number);
+    usize::from(ring::lag(own, told, parts::last_phase(desk.book)))
 }
 
-fn seat_lags(book: &[u8], desk: usize, seat: usize) -> bool
-    requires at_desk { AtDesk book.now desk }
-    requires seat_lt_seats { seat < seats }
-    ensures { result ≡ seat_lags_at book.now desk seat }
+fn seat_lags(desk: Desk<'_>, seat: usize) -> bool
+    requires { seat < seats }
+    ensures { result ≡ seat_lags_at desk.entry.book.now desk.entry.number seat }
 {
-    (seat != desk) & (lag_at(book, desk, seat) == tools::wide(parts::seat_lag_of(book)))
+    (seat != desk.number) & (lag_at(desk, seat) == usize::from(parts::seat_lag_of(desk.book)))
 }
 
 // SeatBehind: the desk's entry lags M in the seat of another desk.
-pub fn seat_behind(book: &[u8], desk: usize) -> bool
-    requires { AtDesk book.now desk }
-    ensures { result ≡ seats_behind book.now desk }
+pub fn seat_behind(desk: Desk<'_>) -> bool
+    ensures { result ≡ seats_behind desk.entry.book.now desk.entry.number }
 {
-    let d = parts::desks_of(book);
-    let mut k: usize = 0;
-    while k < d {
-        if seat_lags(book, desk, k) {
-            return true;
-        }
-        k += 1;
-    }
-    false
+    (0..parts::desks_of(desk.book)).any(|seat| seat_lags(desk, seat))
 }
 
 // A free one lags nowhere, whatever its bytes.
-fn lags_at(book: &[u8], desk: usize, bound: usize, first: usize, place: usize) -> bool
-    requires at_desk { AtDesk book.now desk }
-    requires first_le_shelf_from { (first ≤ shelf_from) × (place < places) }
-    ensures { result ≡ lags_at book.now desk bound first place }
+fn lags_at(desk: Desk<'_>, bound: usize, first: usize, place: usize) -> bool
+    requires { (first ≤ shelf_from) × (place < places) }
+    ensures { result ≡ lags_at desk.entry.book.now desk.entry.number bound first place }
 {
-    is_used(book, first, place) & (lag_at(book, desk, first + place) == bound)
+    is_used(desk.book, first, place) & (lag_at(desk, first + place) == bound)
 }
 
-fn behind_from(book: &[u8], desk: usize, bound: usize, first: usize) -> bool
-    requires at_desk { AtDesk book.now desk }
-    requires first_le_shelf_from { first ≤ shelf_from }
-    ensures { result ≡ behind_from book.now desk bound first }
+fn behind_from(desk: Desk<'_>, bound: usize, first: usize) -> bool
+    requires { first ≤ shelf_from }
+    ensures { result ≡ behind_from desk.entry.book.now desk.entry.number bound first }
 {
-    let mut p: usize = 0;
-    while p < parts::PLACES {
-        if lags_at(book, desk, bound, first, p) {
-            return true;
-        }
-        p += 1;
-    }
-    false
+    (0..parts::PLACES).any(|p| lags_at(desk, bound, first, p))
 }
 
 // MailBehind: mail may lag 2M, a kept stamp A; at that bound one more reset would bring it back as new.
-pub fn mail_behind(book: &[u8], desk: usize) -> bool
-    requires { AtDesk book.now desk }
-    ensures { result ≡ behind_from book.now desk (2 * (setup_of book.now).seat_lag) mail_from }
+pub fn mail_behind(desk: Desk<'_>) -> bool
+    ensures { result ≡ behind_from desk.entry.book.now desk.entry.number (2 * (setup_of desk.entry.book.now).seat_lag) mail_from }
 {
     behind_from(
-        book,
         desk,
-        2 * tools::wide(parts::seat_lag_of(book)),
+        2 * usize::from(parts::seat_lag_of(desk.book)),
         parts::MAIL,
     )
 }
 
 // ShelfBehind.
-pub fn shelf_behind(book: &[u8], desk: usize) -> bool
-    requires { AtDesk book.now desk }
-    ensures { result ≡ behind_from book.now desk (setup_of book.now).shelf_lag shelf_from }
+pub fn shelf_behind(desk: Desk<'_>) -> bool
+    ensures { result ≡ behind_from desk.entry.book.now desk.entry.number (setup_of desk.entry.book.now).shelf_lag shelf_from }
 {
     behind_from(
-        book,
         desk,
-        tools::wide(parts::shelf_lag_of(book)),
+        usize::from(parts::shelf_lag_of(desk.book)),
         parts::SHELF,
     )
 }

@@ -7,13 +7,19 @@ use mathlib.Core.List.{List}
 use native.Mathlib.Omega.{arith}
 use Rattle.tools.specs.Tests.{pick}
 use Rattle.tools.proofs.Reasons.{clear}
-use Rattle.rules.specs.Numbers.{BadBook, NoDesk, number}
+use Rattle.rules.specs.declared.Refusal.TheVariants.{BadBook}
+use Rattle.rules.specs.Numbers.{number}
 use Rattle.rules.specs.Model.{no_desk}
 use Rattle.book.specs.Layout.{setup_of}
 use Rattle.book.specs.Sound.{sound}
 use Rattle.rows.specs.Rows.{AtDesk}
 use Rattle.refusals.specs.First.{asked, desk_number}
 use Rattle.reasons.proofs.Held.{desk_there}
+
+-- where BadBook is not due, the bytes are sound
+pub whole_by : (h : Bool) → ◌≡◌ {A = ℕ} 0 (pick h 0 1) → h ≡ true
+whole_by true e = refl
+whole_by false e = absurd (omega arith)
 
 module _ (s : List ℕ) (t : Bool) where
   -- whatever else the act may be refused for
@@ -32,10 +38,6 @@ module _ (s : List ℕ) (t : Bool) where
       go true h e = (h, (clear t m 0 e).0)
       go false h e = absurd (omega arith)
 
-pub desk_due : (s : List ℕ) (j n : ℕ) → n ≡ desk_number s j → (n ≡ 0 → ⊥) → (r : ℕ)
-    → n ≡ pick (sound s) (pick (no_desk (setup_of s) j) (number NoDesk) r) (number BadBook)
-desk_due s j = asked_due s (no_desk (setup_of s) j) (number NoDesk)
-
 -- a desk of a sound book
 pub record Seated (s : List ℕ) (j : ℕ) : Type 0 where
   pub whole : sound s ≡ true
@@ -47,6 +49,6 @@ seated s j e =
     let q = asked_clear s (no_desk (setup_of s) j) 2 e in
     record { whole = q.0; desk = q.1; at = desk_there s j q.0 q.1 }
 
--- where a call's first question found nothing, the book is sound, and has the desk
-pub there : (s : List ℕ) (j n : ℕ) → n ≡ desk_number s j → n ≡ 0 → Seated s j
-there s j n e z = seated s j (sym e ∙ z)
+-- where a call's first question found nothing, the book is sound, and has the desk, under whatever names they go
+pub there : (s t : List ℕ) (j k : ℕ) → 0 ≡ desk_number t k → s ≡ t → j ≡ k → Seated s j
+there s t j k e p q = seated s j ((λ i. desk_number (p i) (q i)) ∙ sym e)

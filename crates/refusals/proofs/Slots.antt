@@ -1,7 +1,7 @@
 -- What the questions about slots are refused by, and what they have where they are not.
 -- Assumes nothing.
 use Prim.Native.Nat.{ℕ, ◌≤◌, ◌<◌}
-use mathlib.Core.Path.{◌≡◌, refl, sym, ap, ◌∙◌}
+use mathlib.Core.Path.{◌≡◌}
 use mathlib.Core.Bool.{Bool, true, false, not, ◌||◌}
 use mathlib.Core.List.{List}
 use borrow.Author.Tests.{ltb-false, eqb-true, not-false}
@@ -10,7 +10,6 @@ use lib.ListN.{length}
 use Rattle.tools.specs.Tests.{pick, any}
 use Rattle.tools.proofs.Tests.{or_false_l, or_false_r, any_false}
 use Rattle.tools.proofs.Reasons.{clear}
-use Rattle.rules.specs.Numbers.{NoPlace, NoRoom, number}
 use Rattle.rules.specs.Model.{before, compare, picture, show, write, no_slot, chosen, reasons, ask_reasons}
 use Rattle.book.specs.Layout.{setup_of}
 use Rattle.book.specs.Sound.{sound}
@@ -28,10 +27,6 @@ pub record Two (s : List ℕ) (i k : ℕ) : Type 0 where
 module _ (s : List ℕ) (i k : ℕ) where
   abbrev missing : Bool
   missing = no_slot (tables_of s) i || no_slot (tables_of s) k
-
-  -- the number that is due for the slots alone
-  pub slots_number_lem : sound s ≡ true → (t : Bool) → missing ≡ t → pick t (number NoPlace) 0 ≡ slots_number s i k
-  slots_number_lem h t n = sym (λ x. pick (h x) (pick (n x) 5 0) 1)
 
   pub slots_two : slots_number s i k ≡ 0 → Two s i k
   slots_two e =
@@ -68,10 +63,6 @@ module _ (s l : List ℕ) where
   abbrev gone : Bool
   gone = any (length l) (λ i. no_slot (tables_of s) (chosen l i))
 
-  -- the number that is due for the list alone
-  pub list_number_lem : sound s ≡ true → (t u : Bool) → other_count_lem ≡ t → gone ≡ u → pick (t || u) (number NoPlace) 0 ≡ list_number s l
-  list_number_lem h t u n m = sym (λ x. pick (h x) (pick (n x || m x) 5 0) 1)
-
   pub list_used : list_number s l ≡ 0 → Listed s l
   list_used e =
       let q = asked_clear s (other_count_lem || gone) 4 e in
@@ -92,30 +83,6 @@ pub record One (s : List ℕ) (i : ℕ) : Type 0 where
   pub used : no_slot (tables_of s) i ≡ false
 
 module _ (s : List ℕ) (i : ℕ) where
-  -- the number, by that of the slot alone
-  twice : no_slot (tables_of s) i ≡ (no_slot (tables_of s) i || no_slot (tables_of s) i)
-  twice = go (no_slot (tables_of s) i)
-    where
-      go : (t : Bool) → t ≡ (t || t)
-      go true = refl
-      go false = refl
-
-  pub show_number : slots_number s i i ≡ number_of s (show i)
-  unfolding reasons ask_reasons
-  show_number = ap (λ (t : Bool). pick (sound s) (pick t 5 0) 1) (sym twice)
-
-  pub write_due : (room n : ℕ) → n ≡ slots_number s i i → (n ≡ 0 → ⊥) → n ≡ number_of s (write i room)
-  unfolding reasons ask_reasons
-  write_due room n e ne = due s i i n e ne (pick (ltb room 20) 15 0)
-      ∙ ap (λ (t : Bool). pick (sound s) (pick t 5 (pick (ltb room 20) 15 0)) 1) (sym twice)
-
-  pub write_number : (room : ℕ) → slots_number s i i ≡ 0 → (u : Bool) → ltb room 20 ≡ u
-      → pick u (number NoRoom) 0 ≡ number_of s (write i room)
-  unfolding reasons ask_reasons
-  write_number room e u q =
-      let h = slots_two s i i e in
-      sym (λ x. pick (h.whole x) (pick (h.first x) 5 (pick (q x) 15 0)) 1)
-
   pub show_one : number_of s (show i) ≡ 0 → One s i
   unfolding reasons ask_reasons
   show_one e = let r = ready s (show i) e in record { whole = r.0; used = (clear (no_slot (tables_of s) i) 4 0 r.1).0 }

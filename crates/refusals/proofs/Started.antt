@@ -23,7 +23,10 @@ module _ (s : List ℕ) (X : Setup) where
 
   pub start_badbook : (length s ≡ book_size → ⊥) → Starts 1 s
   unfolding answer_to book_after admits
-  start_badbook n = (rw (answer_to, admits, ne_eqb (length s) book_size n), rw (book_after, answer_to, admits, ne_eqb (length s) book_size n))
+  start_badbook n = (
+    rw (answer_to, admits, ne_eqb (length s) book_size n),
+    rw (book_after, answer_to, admits, ne_eqb (length s) book_size n),
+  )
 
   pub start_badsetup : length s ≡ book_size → permits X ≡ false → Starts 2 s
   unfolding answer_to book_after admits call

@@ -7,7 +7,8 @@
 --   used_number s a p  what is due of the p-th of the records from record a on, which is to be used: BadBook, NoPlace, or 0
 use Rattle.std.specs.Prelude.{ℕ, Bool, not, ◌||◌, List, eqb, length}
 use Rattle.tools.specs.Tests.{pick, any}
-use Rattle.rules.specs.Numbers.{BadBook, NoDesk, NoPlace, number}
+use Rattle.rules.specs.declared.Refusal.TheVariants.{BadBook, NoDesk, NoPlace}
+use Rattle.rules.specs.Numbers.{number}
 use Rattle.rules.specs.Model.{no_desk, no_slot, chosen}
 use Rattle.book.specs.Layout.{setup_of}
 use Rattle.book.specs.Sound.{sound}

@@ -1,292 +1,222 @@
-// The number that each call is answered before anything is changed: BadBook first, then its reasons in ascending order. To an event
-// goes with it the slot that its stamp is kept in, so that the shelf is looked through once. And what a refused event answers.
+// What each call is answered before anything is changed: BadBook first, then its reasons in ascending order. To an event goes with it
+// the slot that its stamp is kept in, so that the shelf is looked through once; to a question the book, whole.
 
-#![tactic(auto)]
+#![tactic(auto, unfolding(rules::specs::Model::reasons, rules::specs::Model::ask_reasons))]
 
-ghost use Rattle.std.specs.Prelude.{◌≡◌, ◌<◌, ◌≤◌, length};
-ghost use Rattle.tools.specs.Tests.{any};
-ghost use Rattle.rules.specs.Setups.{setup_with};
+ghost use Rattle.std.specs.Prelude.{◌≡◌, ◌≤◌, length, IfOk};
+ghost use Rattle.tools.specs.Tests.{pick, any};
+ghost use Rattle.rules.specs.Setups.{setup_in};
 ghost use Rattle.rules.specs.Model;
-ghost use Rattle.rules.specs.Model.{refusal};
+ghost use Rattle.rules.specs.Numbers.{number};
 ghost use Rattle.rules.specs.Calls.{start};
-ghost use Rattle.rules.specs.Replies.{blank};
-ghost use Rattle.rules.specs.declared.Kept.TheVariants as Keeps;
-ghost use Rattle.rules.specs.declared.Posted.TheVariants as Posts;
-ghost use Rattle.book.specs.Layout.{book_size, shelf_from};
+ghost use Rattle.rules.specs.Replies.{done_says, number_in};
+ghost use Rattle.rules.specs.declared.Refusal.TheVariants as Refusals;
+ghost use Rattle.book.specs.Layout.{shelf_from};
+ghost use Rattle.book.specs.Sound.{sound};
 ghost use Rattle.book.specs.Answers.{answer_to};
 ghost use Rattle.book.specs.Numbers.{tables_of, number_of};
 ghost use Rattle.refusals.specs.First.{desk_number, used_number, slots_number, list_number};
-ghost use Rattle.refusals.specs.Grants.{granted, shelf_grant, grant_of};
+ghost use Rattle.refusals.specs.Grants.{granted_by, shelf_grant, grant_of};
 
-use rules::{Kept, Posted, Received, Sent, SetupNumbers, Stamp, Stamped};
+use parts::BookBytes;
+use rows::Desk;
+use rules::{GivenSetup, Refusal};
 
-// What an event is granted: its number, and where that is 0 the slot for its stamp; 32, which is none, where it is not kept.
-#[derive(Clone, Copy)]
-pub struct Grant {
-    pub number: u8,
-    pub slot: usize,
+// Start: BadBook, by the length alone, BadSetup or done.
+#[tactic(auto, unfolding(book::specs::Answers::answer_to, book::specs::Answers::admits, rules::specs::Calls::call))]
+pub fn start_check(book: &[u8], setup: GivenSetup<'_>) -> Result<(), Refusal>
+    ensures { done_says result ≡ answer_to book.now (start (setup_in setup.entry)) }
+{
+    if book.len() != parts::BOOK_BYTES {
+        return Err(Refusal::BadBook);
+    }
+    if !setups::permits(setup) {
+        return Err(Refusal::BadSetup);
+    }
+    Ok(())
 }
 
-fn refused(number: u8) -> Grant
-    ensures { result ≡ granted number 32 }
+// What every other call asks first: BadBook, or the book, whole.
+#[tactic(auto, using(book::proofs::Soundness::sound_size))]
+fn sound_book(book: &[u8]) -> Result<&BookBytes, Refusal>
+    ensures number { number_in result ≡ pick (sound book.now) 0 (number Refusals.BadBook) }
+    ensures whole { IfOk result (λ b. b.now ≡ book.now) }
 {
-    Grant {
-        number: number,
-        slot: parts::PLACES,
+    let Some(whole) = book.as_array() else {
+        return Err(Refusal::BadBook);
+    };
+    if !soundness::sound(whole) {
+        return Err(Refusal::BadBook);
     }
+    Ok(whole)
 }
 
-fn no_stamp() -> Stamp
-    ensures { result ≡ blank }
+// What the events ask first: BadBook, NoDesk or the desk.
+#[tactic(auto, using(crate::proofs::First::whole_by, reasons::proofs::Held::desk_there))]
+fn desk_of(book: &[u8], number: usize) -> Result<Desk<'_>, Refusal>
+    ensures number { number_in result ≡ desk_number book.now number }
+    ensures there { IfOk result (λ d. (d.book.now ≡ book.now) × (d.number ≡ number)) }
 {
-    Stamp {
-        owner: 0,
-        row: [0u8; 16],
+    let whole = sound_book(book)?;
+    if reasons::no_desk(whole, number) {
+        return Err(Refusal::NoDesk);
     }
-}
-
-// What a refused local or reset answers.
-pub fn event_refused(number: u8) -> Stamped
-    ensures { result ≡ record { number = number; stamp = blank; kept = Keeps.No } }
-{
-    let stamp = no_stamp();
-    Stamped {
-        number: number,
-        stamp: stamp,
-        kept: Kept::No,
-    }
-}
-
-// What a refused send answers.
-pub fn send_refused(number: u8) -> Sent
-    ensures { result ≡ record { place = Posts.Refused number; stamp = blank; kept = Keeps.No } }
-{
-    let stamp = no_stamp();
-    Sent {
-        place: Posted::Refused(number),
-        stamp: stamp,
-        kept: Kept::No,
-    }
-}
-
-// What a refused receive answers.
-pub fn receive_refused(number: u8) -> Received
-    ensures { result ≡ record { number = number; stamp = blank; learnt = 0; kept = Keeps.No } }
-{
-    let stamp = no_stamp();
-    Received {
-        number: number,
-        stamp: stamp,
-        learnt: 0,
-        kept: Kept::No,
-    }
+    Ok(Desk {
+        book: whole,
+        number,
+    })
 }
 
 // ShelfFull, or the slot of an event that is kept: what all four ask, if only for a kept one.
-fn shelf_grant(book: &[u8], keep: bool) -> Grant
-    requires { length book.now ≡ book_size }
-    ensures { result ≡ shelf_grant book.now keep }
+fn shelf_grant(book: &BookBytes, keep: bool) -> Result<Option<usize>, Refusal>
+    ensures { granted_by result ≡ shelf_grant book.now keep }
 {
     if !keep {
-        return Grant {
-            number: rules::DONE,
-            slot: parts::PLACES,
-        };
+        return Ok(None);
     }
-    let slot = reasons::free_from(book, parts::SHELF);
-    if slot < parts::PLACES {
-        return Grant {
-            number: rules::DONE,
-            slot: slot,
-        };
-    }
-    refused(rules::SHELF_FULL)
+    let Some(slot) = reasons::free_from(book, parts::SHELF) else {
+        return Err(Refusal::ShelfFull);
+    };
+    Ok(Some(slot))
 }
 
-// Start: BadBook, by the length alone, BadSetup or 0.
-pub fn start_number(book: &[u8], s: SetupNumbers, limits: &[usize]) -> u8
-    ensures { refusal result ≡ answer_to book.now (start (setup_with s limits.now)) }
+// Local: BadBook, NoDesk, PhaseFull, ShelfFull or the slot for its stamp, none where it is not kept.
+pub fn local_grant(book: &[u8], desk: usize, keep: bool) -> Result<Option<usize>, Refusal>
+    ensures { granted_by result ≡ grant_of book.now (Model.local desk keep) keep }
 {
-    if book.len() != parts::BOOK_BYTES {
-        return rules::BAD_BOOK;
+    let at = desk_of(book, desk)?;
+    if reasons::phase_full(at) {
+        return Err(Refusal::PhaseFull);
     }
-    if !setups::permits(s, limits) {
-        return rules::BAD_SETUP;
-    }
-    rules::DONE
+    shelf_grant(at.book, keep)
 }
 
-// What local, receive and reset ask first.
-fn desk_number(book: &[u8], desk: usize) -> u8
-    ensures { result ≡ desk_number book.now desk }
+// Send: BadBook, NoDesk, SameDesk, PhaseFull, MailFull, ShelfFull or the slot.
+pub fn send_grant(book: &[u8], desk: usize, to: usize, keep: bool) -> Result<Option<usize>, Refusal>
+    ensures { granted_by result ≡ grant_of book.now (Model.send desk to keep) keep }
 {
-    if !soundness::sound(book) {
-        return rules::BAD_BOOK;
-    }
-    if reasons::no_desk(book, desk) {
-        return rules::NO_DESK;
-    }
-    rules::DONE
-}
-
-// Local: BadBook, NoDesk, PhaseFull, ShelfFull or 0.
-pub fn local_grant(book: &[u8], desk: usize, keep: bool) -> Grant
-    ensures { result ≡ grant_of book.now (Model.local desk keep) keep }
-{
-    let n = desk_number(book, desk);
-    if n != rules::DONE {
-        return refused(n);
-    }
-    if reasons::phase_full(book, desk) {
-        return refused(rules::PHASE_FULL);
-    }
-    shelf_grant(book, keep)
-}
-
-// Send: BadBook, NoDesk, SameDesk, PhaseFull, MailFull, ShelfFull or 0.
-pub fn send_grant(book: &[u8], desk: usize, to: usize, keep: bool) -> Grant
-    ensures { result ≡ grant_of book.now (Model.send desk to keep) keep }
-{
-    if !soundness::sound(book) {
-        return refused(rules::BAD_BOOK);
-    }
-    if reasons::no_desk(book, desk) | reasons::no_desk(book, to) {
-        return refused(rules::NO_DESK);
+    let at = desk_of(book, desk)?;
+    if reasons::no_desk(at.book, to) {
+        return Err(Refusal::NoDesk);
     }
     if desk == to {
-        return refused(rules::SAME_DESK);
+        return Err(Refusal::SameDesk);
     }
-    if reasons::phase_full(book, desk) {
-        return refused(rules::PHASE_FULL);
+    if reasons::phase_full(at) {
+        return Err(Refusal::PhaseFull);
     }
-    if reasons::mail_full(book) {
-        return refused(rules::MAIL_FULL);
+    if reasons::mail_full(at.book) {
+        return Err(Refusal::MailFull);
     }
-    shelf_grant(book, keep)
+    shelf_grant(at.book, keep)
 }
 
-// Receive: BadBook, NoDesk, NoPlace, NotYours, PhaseFull, ShelfFull or 0.
-pub fn receive_grant(book: &[u8], desk: usize, place: usize, keep: bool) -> Grant
-    ensures { result ≡ grant_of book.now (Model.receive desk place keep) keep }
+// Receive: BadBook, NoDesk, NoPlace, NotYours, PhaseFull, ShelfFull or the slot.
+pub fn receive_grant(
+    book: &[u8],
+    desk: usize,
+    place: usize,
+    keep: bool,
+) -> Result<Option<usize>, Refusal>
+    ensures { granted_by result ≡ grant_of book.now (Model.receive desk place keep) keep }
 {
-    let n = desk_number(book, desk);
-    if n != rules::DONE {
-        return refused(n);
+    let at = desk_of(book, desk)?;
+    if !reasons::is_used(at.book, parts::MAIL, place) {
+        return Err(Refusal::NoPlace);
     }
-    if !reasons::is_used(book, parts::MAIL, place) {
-        return refused(rules::NO_PLACE);
+    if reasons::not_yours(at, place) {
+        return Err(Refusal::NotYours);
     }
-    if reasons::not_yours(book, desk, place) {
-        return refused(rules::NOT_YOURS);
+    if reasons::phase_full(at) {
+        return Err(Refusal::PhaseFull);
     }
-    if reasons::phase_full(book, desk) {
-        return refused(rules::PHASE_FULL);
-    }
-    shelf_grant(book, keep)
+    shelf_grant(at.book, keep)
 }
 
-// Reset: BadBook, NoDesk, ShelfFull, SeatBehind, MailBehind, ShelfBehind or 0.
-pub fn reset_grant(book: &[u8], desk: usize, keep: bool) -> Grant
-    ensures { result ≡ grant_of book.now (Model.reset desk keep) keep }
+// Reset: BadBook, NoDesk, ShelfFull, SeatBehind, MailBehind, ShelfBehind or the slot.
+pub fn reset_grant(book: &[u8], desk: usize, keep: bool) -> Result<Option<usize>, Refusal>
+    ensures { granted_by result ≡ grant_of book.now (Model.reset desk keep) keep }
 {
-    let n = desk_number(book, desk);
-    if n != rules::DONE {
-        return refused(n);
+    let at = desk_of(book, desk)?;
+    let slot = shelf_grant(at.book, keep)?;
+    if reasons::seat_behind(at) {
+        return Err(Refusal::SeatBehind);
     }
-    let grant = shelf_grant(book, keep);
-    if grant.number != rules::DONE {
-        return grant;
+    if reasons::mail_behind(at) {
+        return Err(Refusal::MailBehind);
     }
-    if reasons::seat_behind(book, desk) {
-        return refused(rules::SEAT_BEHIND);
+    if reasons::shelf_behind(at) {
+        return Err(Refusal::ShelfBehind);
     }
-    if reasons::mail_behind(book, desk) {
-        return refused(rules::MAIL_BEHIND);
-    }
-    if reasons::shelf_behind(book, desk) {
-        return refused(rules::SHELF_BEHIND);
-    }
-    grant
+    Ok(slot)
 }
 
-// Drop and discard: BadBook, NoPlace or 0; first is the record of place or slot 0.
-pub fn used_number(book: &[u8], first: usize, place: usize) -> u8
+// Drop and discard: BadBook, NoPlace or done; first is the record of place or slot 0.
+pub fn used_check(book: &[u8], first: usize, place: usize) -> Result<(), Refusal>
     requires { first ≤ shelf_from }
-    ensures { result ≡ used_number book.now first place }
+    ensures { number_in result ≡ used_number book.now first place }
 {
-    if !soundness::sound(book) {
-        return rules::BAD_BOOK;
+    let whole = sound_book(book)?;
+    if !reasons::is_used(whole, first, place) {
+        return Err(Refusal::NoPlace);
     }
-    if !reasons::is_used(book, first, place) {
-        return rules::NO_PLACE;
-    }
-    rules::DONE
+    Ok(())
 }
 
-// Before and compare, before their stamps are looked at: BadBook, NoPlace or 0. OutOfReach comes with the comparison.
-pub fn slots_number(book: &[u8], first: usize, second: usize) -> u8
-    ensures { result ≡ slots_number book.now first second }
+// Before and compare, before their stamps are looked at: BadBook, NoPlace or the book. OutOfReach comes with the comparison.
+pub fn slots_check(book: &[u8], first: usize, second: usize) -> Result<&BookBytes, Refusal>
+    ensures number { number_in result ≡ slots_number book.now first second }
+    ensures whole { IfOk result (λ b. b.now ≡ book.now) }
 {
-    if !soundness::sound(book) {
-        return rules::BAD_BOOK;
-    }
-    if !reasons::is_used(book, parts::SHELF, first)
-        | !reasons::is_used(book, parts::SHELF, second)
+    let whole = sound_book(book)?;
+    if !reasons::is_used(whole, parts::SHELF, first)
+        | !reasons::is_used(whole, parts::SHELF, second)
     {
-        return rules::NO_PLACE;
+        return Err(Refusal::NoPlace);
     }
-    rules::DONE
+    Ok(whole)
 }
 
 // Whether a slot of the list is above 31 or free.
-fn any_gone(book: &[u8], slots: &[usize]) -> bool
-    requires { length book.now ≡ book_size }
+fn any_gone(book: &BookBytes, slots: &[usize]) -> bool
     ensures { result ≡ any (length slots.now)
         (λ i. Model.no_slot (tables_of book.now) (Model.chosen slots.now i)) }
 {
-    let mut i: usize = 0;
-    while i < slots.len() {
-        if !reasons::is_used(book, parts::SHELF, slots[i]) {
-            return true;
-        }
-        i += 1;
-    }
-    false
+    slots
+        .iter()
+        .any(|slot| !reasons::is_used(book, parts::SHELF, *slot))
 }
 
-// Picture, before its stamps are looked at: BadBook, NoPlace or 0. OutOfReach and WrongOwner come with the picture.
-pub fn list_number(book: &[u8], slots: &[usize]) -> u8
-    ensures { result ≡ list_number book.now slots.now }
+// Picture, before its stamps are looked at: BadBook, NoPlace or the book. OutOfReach and WrongOwner come with the picture.
+pub fn list_check<'a>(book: &'a [u8], slots: &[usize]) -> Result<&'a BookBytes, Refusal>
+    ensures number { number_in result ≡ list_number book.now slots.now }
+    ensures whole { IfOk result (λ b. b.now ≡ book.now) }
 {
-    if !soundness::sound(book) {
-        return rules::BAD_BOOK;
+    let whole = sound_book(book)?;
+    if slots.len() != parts::desks_of(whole) {
+        return Err(Refusal::NoPlace);
     }
-    if slots.len() != parts::desks_of(book) {
-        return rules::NO_PLACE;
+    if any_gone(whole, slots) {
+        return Err(Refusal::NoPlace);
     }
-    if any_gone(book, slots) {
-        return rules::NO_PLACE;
-    }
-    rules::DONE
+    Ok(whole)
 }
 
-// Show: BadBook, NoPlace or 0.
-pub fn show_number(book: &[u8], slot: usize) -> u8
-    ensures { result ≡ number_of book.now (Model.show slot) }
+// Show: BadBook, NoPlace or done.
+pub fn show_check(book: &[u8], slot: usize) -> Result<(), Refusal>
+    ensures { number_in result ≡ number_of book.now (Model.show slot) }
 {
-    slots_number(book, slot, slot)
+    used_check(book, parts::SHELF, slot)
 }
 
-// Write, into so many bytes of room: BadBook, NoPlace, NoRoom or 0.
-pub fn write_number(book: &[u8], slot: usize, room: usize) -> u8
-    ensures { result ≡ number_of book.now (Model.write slot room) }
+// Write, into so many bytes of room: BadBook, NoPlace, NoRoom or the book.
+pub fn write_check(book: &[u8], slot: usize, room: usize) -> Result<&BookBytes, Refusal>
+    ensures number { number_in result ≡ number_of book.now (Model.write slot room) }
+    ensures whole { IfOk result (λ b. b.now ≡ book.now) }
 {
-    let n = slots_number(book, slot, slot);
-    if n != rules::DONE {
-        return n;
-    }
+    let whole = slots_check(book, slot, slot)?;
     if room < parts::RECORD_BYTES {
-        return rules::NO_ROOM;
+        return Err(Refusal::NoRoom);
     }
-    rules::DONE
+    Ok(whole)
 }

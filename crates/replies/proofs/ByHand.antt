@@ -12,8 +12,8 @@ use mathlib.Core.List.{[], ◌∷◌, ◌++◌}
 use Rattle.tools.specs.Tables.{put}
 use Rattle.ring.specs.Phases.{Pair}
 use Rattle.rules.specs.declared.Relation.TheVariants.{Concurrent}
-use Rattle.rules.specs.declared.Pictured.TheVariants as Pictures
-use Rattle.rules.specs.declared.Foretold.TheVariants as Foretells
+use Rattle.rules.specs.declared.Refusal.TheVariants.{SeatBehind, BadSummary}
+use Rattle.std.specs.Prelude.{Ok, Err, None, Some}
 use Rattle.rules.specs.Replies.{pictured_says, foretold_says}
 use Rattle.rules.specs.Model.{Row, zeros, nothing, made, says, relates, Answer, refusal, accepted}
 use Rattle.text.specs.Words.{ascii}
@@ -37,11 +37,11 @@ pub record AnswerLines : Type 0 where
   pub yes : Line (accepted (says true)) "000 yes"
   pub no : Line (accepted (says false)) "000 no"
   pub word : Line (accepted (relates Concurrent)) "000 concurrent"
-  pub picture : Line (pictured_says Pictures.Yes) "000 yes"
-  pub odds : Line (pictured_says (Pictures.Odds 2 7)) "000 002 007"
-  pub may : Line (foretold_says (Foretells.Is 0)) "000 yes"
-  pub may_not : Line (foretold_says (Foretells.Is 11)) "000 011"
-  pub may_refused : Line (foretold_says (Foretells.Refused 21)) "021"
+  pub picture : Line (pictured_says (Ok None)) "000 yes"
+  pub odds : Line (pictured_says (Ok (Some record { lower = 2; higher = 7 }))) "000 002 007"
+  pub may : Line (foretold_says (Ok None)) "000 yes"
+  pub may_not : Line (foretold_says (Ok (Some SeatBehind))) "000 011"
+  pub may_refused : Line (foretold_says (Err BadSummary)) "021"
   pub start : Line (accepted nothing) "000"
   pub refused : Line (refusal 11) "011"
 

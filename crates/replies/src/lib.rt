@@ -1,219 +1,251 @@
-// Answers as lines of text, each written into a lent buffer from a place on. A line with no pairs is the same in a book of any
-// number of desks.
+// Answers as lines of text.
 
 #![tactic(auto)]
 
-ghost use Rattle.std.specs.Prelude.{ℕ, ◌+◌, ◌≤◌, [], length};
-ghost use Rattle.text.specs.Put.{Wrote, field};
-ghost use Rattle.rules.specs.Model.{refusal, accepted, relates, names, foretells};
-ghost use Rattle.rules.specs.Replies.{row_of, slot_in, stamped_says, received_says, posted_says, told_says, compared_says, pictured_says};
-ghost use Rattle.rules.specs.Replies.{foretold_says};
-ghost use Rattle.replies.specs.Print.{pair, pairs, stamp_text, then, answer_text, longest, Printable};
+ghost use Rattle.std.specs.Prelude.{◌≡◌, ℕ, ◌+◌, ◌≤◌, [], ◌∷◌, ◌++◌, length};
+ghost use Rattle.text.specs.Put.{three, field};
+ghost use Rattle.rules.specs.Model.{Value, accepted, says, relates};
+ghost use Rattle.rules.specs.Replies.{answer_by, number_in, row_of, slot_in, event};
+ghost use Rattle.rules.specs.Replies.{done_value, stamped_value, received_value, sent_value, odds_value, reset_value};
+ghost use Rattle.replies.specs.Print.{pair, stamp_text, then, answer_text};
 
-use rules::{
-    Compared, Foretold, Kept, Pictured, Posted, Received, Relation, Sent, Stamp, Stamped, Told,
-};
+use arrayvec::ArrayVec;
+use rules::{Odds, Received, Refusal, Relation, Sent, Stamp, Stamped};
 
 // The bytes of the longest line.
 pub const LONGEST: usize = 80;
 
+// A line of text.
+pub type Line = ArrayVec<u8, LONGEST>;
+
+// What an accepted call gives, and the line that tells it.
+pub trait Reply {
+    // Its value, by the rules.
+    ghost value: { Self → Value };
+
+    // Of how many desks its line can tell.
+    ghost printable: { ℕ → Type 0 };
+
+    // Its line, in a book of so many desks.
+    fn line(self, desks: u8) -> Line
+        requires { printable desks }
+        ensures { result.items ≡ answer_text desks (accepted (value self)) };
+}
+
 // A space and a number.
-fn put_field(out: &mut [u8], at: usize, n: u8) -> usize
-    requires { at + 4 ≤ length out.old }
-    ensures { Wrote out.old at (field n) out.new result }
+fn put_field(line: &mut Line, n: u8)
+    requires { length line.old.items + 4 ≤ LONGEST }
+    ensures { line.new.items ≡ line.old.items ++ field n }
 {
-    let a = text::put_byte(out, at, b' ');
-    text::put_three(out, a, n)
+    text::put_byte(line, b' ');
+    text::put_three(line, n);
 }
 
 // A space and a pair.
-fn put_pair(out: &mut [u8], at: usize, phase: u8, clock: u8) -> usize
-    requires { at + 8 ≤ length out.old }
-    ensures { Wrote out.old at (pair phase clock) out.new result }
+fn put_pair(line: &mut Line, phase: u8, clock: u8)
+    requires { length line.old.items + 8 ≤ LONGEST }
+    ensures { line.new.items ≡ line.old.items ++ pair phase clock }
 {
-    let a = put_field(out, at, phase);
-    let b = text::put_byte(out, a, b'.');
-    text::put_three(out, b, clock)
+    put_field(line, phase);
+    text::put_byte(line, b'.');
+    text::put_three(line, clock);
 }
 
-// The pairs of the first desks of a row.
-fn put_pairs(out: &mut [u8], at: usize, desks: u8, row: [u8; 16]) -> usize
-    requires { (desks ≤ 8) × (at + 64 ≤ length out.old) }
-    ensures { Wrote out.old at (pairs desks (row_of row)) out.new result }
+// The owner of a stamp, and the pairs of the first desks of its row.
+fn put_stamp(line: &mut Line, desks: u8, stamp: Stamp)
+    requires { (desks ≤ 8) × (length line.old.items + length (stamp_text desks stamp.owner (row_of stamp.row)) ≤ LONGEST) }
+    ensures { line.new.items ≡ line.old.items ++ stamp_text desks stamp.owner (row_of stamp.row) }
 {
-    let mut a = at;
-    let mut j: usize = 0;
-    while j < desks as usize {
-        a = put_pair(out, a, row[parts::phase_spot(j)], row[parts::clock_spot(j)]);
-        j += 1;
-    }
-    a
-}
-
-// The owner and the pairs of a stamp.
-fn put_stamp(out: &mut [u8], at: usize, desks: u8, s: Stamp) -> usize
-    requires { (desks ≤ 8) × (at + 68 ≤ length out.old) }
-    ensures { Wrote out.old at (stamp_text desks s.owner (row_of s.row)) out.new result }
-{
-    let row = s.row;
-    let a = put_field(out, at, s.owner);
-    put_pairs(out, a, desks, row)
-}
-
-// The slot of an event that is kept; nothing where it is not.
-fn put_slot(out: &mut [u8], at: usize, kept: Kept) -> usize
-    requires { at + 4 ≤ length out.old }
-    ensures { Wrote out.old at (then [] field (slot_in kept)) out.new result }
-{
-    match kept {
-        Kept::No => at,
-        Kept::In(s) => put_field(out, at, s),
+    put_field(line, stamp.owner);
+    for j in 0..usize::from(desks) {
+        put_pair(
+            line,
+            stamp.row[parts::phase_spot(j)],
+            stamp.row[parts::clock_spot(j)],
+        );
     }
 }
 
-// The line of an answer that is a number alone: a refusal, or done.
-pub fn put_number(out: &mut [u8], at: usize, n: u8) -> usize
-    requires { at + 4 ≤ length out.old }
-    ensures { (D : ℕ) → Wrote out.old at (answer_text D (refusal n)) out.new result }
+// A space and a number, where there is one.
+fn put_some(line: &mut Line, n: Option<u8>)
+    requires { length (then line.old.items field (slot_in n)) ≤ LONGEST }
+    ensures { line.new.items ≡ then line.old.items field (slot_in n) }
 {
-    let a = text::put_three(out, at, n);
-    text::put_byte(out, a, b'\n')
-}
-
-// The line of an answer to local or reset.
-pub fn put_stamped(out: &mut [u8], at: usize, desks: u8, r: Stamped) -> usize
-    requires { Printable desks (stamped_says r) × (at + longest ≤ length out.old) }
-    ensures { Wrote out.old at (answer_text desks (stamped_says r)) out.new result }
-{
-    if r.number != rules::DONE {
-        return put_number(out, at, r.number);
+    if let Some(n) = n {
+        put_field(line, n);
     }
-    let s = r.stamp;
-    let kept = r.kept;
-    let a = text::put_three(out, at, rules::DONE);
-    let b = put_stamp(out, a, desks, s);
-    let c = put_slot(out, b, kept);
-    text::put_byte(out, c, b'\n')
 }
 
-// The line of an answer to receive.
-pub fn put_received(out: &mut [u8], at: usize, desks: u8, r: Received) -> usize
-    requires { Printable desks (received_says r) × (at + longest ≤ length out.old) }
-    ensures { Wrote out.old at (answer_text desks (received_says r)) out.new result }
+// The line of an event: its place, its stamp, the number of desks learnt of and its slot, where it has them.
+fn event_line(
+    desks: u8,
+    place: Option<u8>,
+    stamp: Stamp,
+    learnt: Option<u8>,
+    slot: Option<u8>,
+) -> Line
+    requires desks { desks ≤ 8 }
+    requires room { length (answer_text desks (accepted (event (slot_in place) stamp (slot_in learnt) slot))) ≤ LONGEST }
+    ensures { result.items ≡ answer_text desks (accepted (event (slot_in place) stamp (slot_in learnt) slot)) }
 {
-    if r.number != rules::DONE {
-        return put_number(out, at, r.number);
+    let mut line = Line::new();
+    text::put_text(&mut line, b"000");
+    put_some(&mut line, place);
+    put_stamp(&mut line, desks, stamp);
+    put_some(&mut line, learnt);
+    put_some(&mut line, slot);
+    text::put_byte(&mut line, b'\n');
+    line
+}
+
+// The line of a reset that would be refused with a number.
+fn foretold_line(number: u8) -> Line
+    ensures { result.items ≡ three 0 ++ field number ++ 10 ∷ [] }
+{
+    let mut line = Line::new();
+    text::put_text(&mut line, b"000");
+    put_field(&mut line, number);
+    text::put_byte(&mut line, b'\n');
+    line
+}
+
+// The line of a refusal: its number.
+fn refusal_line(number: u8) -> Line
+    ensures { result.items ≡ three number ++ 10 ∷ [] }
+{
+    let mut line = Line::new();
+    text::put_three(&mut line, number);
+    text::put_byte(&mut line, b'\n');
+    line
+}
+
+// Of a call that gives nothing: the number alone.
+impl Reply for () {
+    ghost value = { done_value };
+
+    ghost printable = { λ n. Unit {0} };
+
+    fn line(self, desks: u8) -> Line {
+        let mut line = Line::new();
+        text::put_text(&mut line, b"000\n");
+        line
     }
-    let s = r.stamp;
-    let learnt = r.learnt;
-    let kept = r.kept;
-    let a = text::put_three(out, at, rules::DONE);
-    let b = put_stamp(out, a, desks, s);
-    let c = put_field(out, b, learnt);
-    let d = put_slot(out, c, kept);
-    text::put_byte(out, d, b'\n')
 }
 
-// The line of an answer to send.
-pub fn put_sent(out: &mut [u8], at: usize, desks: u8, r: Sent) -> usize
-    requires { Printable desks (posted_says r.place r.stamp r.kept) × (at + longest ≤ length out.old) }
-    ensures { Wrote out.old at (answer_text desks (posted_says r.place r.stamp r.kept)) out.new result }
-{
-    let place = r.place;
-    match place {
-        Posted::At(p) => {
-            let s = r.stamp;
-            let kept = r.kept;
-            let a = text::put_three(out, at, rules::DONE);
-            let b = put_field(out, a, p);
-            let c = put_stamp(out, b, desks, s);
-            let d = put_slot(out, c, kept);
-            text::put_byte(out, d, b'\n')
+// Of local and reset.
+impl Reply for Stamped {
+    ghost value = { stamped_value };
+
+    ghost printable = { λ n. n ≤ 8 };
+
+    #[tactic(auto, using(crate::proofs::Lengths::stamped_fits))]
+    fn line(self, desks: u8) -> Line {
+        event_line(desks, None, self.stamp, None, self.slot)
+    }
+}
+
+// Of receive.
+impl Reply for Received {
+    ghost value = { received_value };
+
+    ghost printable = { λ n. n ≤ 8 };
+
+    #[tactic(auto, using(crate::proofs::Lengths::received_fits))]
+    fn line(self, desks: u8) -> Line {
+        event_line(desks, None, self.stamp, Some(self.learnt), self.slot)
+    }
+}
+
+// Of send.
+impl Reply for Sent {
+    ghost value = { sent_value };
+
+    ghost printable = { λ n. n ≤ 8 };
+
+    fn line(self, desks: u8) -> Line {
+        event_line(desks, Some(self.place), self.stamp, None, self.slot)
+    }
+}
+
+// Of before.
+impl Reply for bool {
+    ghost value = { says };
+
+    ghost printable = { λ n. Unit {0} };
+
+    fn line(self, desks: u8) -> Line {
+        let mut line = Line::new();
+        if self {
+            text::put_text(&mut line, b"000 yes\n");
+        } else {
+            text::put_text(&mut line, b"000 no\n");
         }
-        Posted::Refused(n) => put_number(out, at, n),
+        line
     }
 }
 
-// The line of an answer to before.
-pub fn put_told(out: &mut [u8], at: usize, r: Told) -> usize
-    requires { at + 8 ≤ length out.old }
-    ensures { (D : ℕ) → Wrote out.old at (answer_text D (told_says r)) out.new result }
-{
-    match r {
-        Told::Yes => text::put_text(out, at, b"000 yes\n"),
-        Told::No => text::put_text(out, at, b"000 no\n"),
-        Told::Refused(n) => put_number(out, at, n),
+// Of compare: the relation in words.
+impl Reply for Relation {
+    ghost value = { relates };
+
+    ghost printable = { λ n. Unit {0} };
+
+    fn line(self, desks: u8) -> Line {
+        let text: &[u8] = match self {
+            Relation::Before => b"000 before\n",
+            Relation::After => b"000 after\n",
+            Relation::Same => b"000 same\n",
+            Relation::Concurrent => b"000 concurrent\n",
+            Relation::Crossed => b"000 crossed\n",
+        };
+        let mut line = Line::new();
+        text::put_text(&mut line, text);
+        line
     }
 }
 
-// The line of an accepted answer to compare: the relation in words.
-fn put_relation(out: &mut [u8], at: usize, w: Relation) -> usize
-    requires { at + 15 ≤ length out.old }
-    ensures { (D : ℕ) → Wrote out.old at (answer_text D (accepted (relates w))) out.new result }
-{
-    match w {
-        Relation::Before => text::put_text(out, at, b"000 before\n"),
-        Relation::After => text::put_text(out, at, b"000 after\n"),
-        Relation::Same => text::put_text(out, at, b"000 same\n"),
-        Relation::Concurrent => text::put_text(out, at, b"000 concurrent\n"),
-        Relation::Crossed => text::put_text(out, at, b"000 crossed\n"),
+// Of picture: yes, or the two desks at odds.
+impl Reply for Option<Odds> {
+    ghost value = { odds_value };
+
+    ghost printable = { λ n. Unit {0} };
+
+    fn line(self, desks: u8) -> Line {
+        match self {
+            None => true.line(desks),
+            Some(Odds { lower, higher }) => {
+                let mut line = Line::new();
+                text::put_text(&mut line, b"000");
+                put_field(&mut line, lower);
+                put_field(&mut line, higher);
+                text::put_byte(&mut line, b'\n');
+                line
+            }
+        }
     }
 }
 
-// The line of an answer to compare.
-pub fn put_compared(out: &mut [u8], at: usize, r: Compared) -> usize
-    requires { at + 15 ≤ length out.old }
-    ensures { (D : ℕ) → Wrote out.old at (answer_text D (compared_says r)) out.new result }
-{
-    match r {
-        Compared::Is(w) => put_relation(out, at, w),
-        Compared::Refused(n) => put_number(out, at, n),
+// Of may: yes, or the number that a reset would be answered.
+impl Reply for Option<Refusal> {
+    ghost value = { reset_value };
+
+    ghost printable = { λ n. Unit {0} };
+
+    fn line(self, desks: u8) -> Line {
+        match self {
+            None => true.line(desks),
+            Some(refusal) => foretold_line(refusal.number()),
+        }
     }
 }
 
-// The line of two desks at odds.
-fn put_odds(out: &mut [u8], at: usize, lower: u8, higher: u8) -> usize
-    requires { at + 12 ≤ length out.old }
-    ensures { (D : ℕ) → Wrote out.old at (answer_text D (accepted (names lower higher))) out.new result }
+// The line of an answer, in a book of so many desks.
+pub fn line_of<T: Reply + Drop>(desks: u8, answer: Result<T, Refusal>) -> Line
+    requires { number_in answer ≡ 0 → T.printable desks }
+    ensures { result.items ≡ answer_text desks (answer_by T.value answer) }
 {
-    let a = text::put_three(out, at, rules::DONE);
-    let b = put_field(out, a, lower);
-    let c = put_field(out, b, higher);
-    text::put_byte(out, c, b'\n')
-}
-
-// The line of an answer to picture.
-pub fn put_pictured(out: &mut [u8], at: usize, r: Pictured) -> usize
-    requires { at + 12 ≤ length out.old }
-    ensures { (D : ℕ) → Wrote out.old at (answer_text D (pictured_says r)) out.new result }
-{
-    match r {
-        Pictured::Yes => put_told(out, at, Told::Yes),
-        Pictured::Odds(lower, higher) => put_odds(out, at, lower, higher),
-        Pictured::Refused(n) => put_number(out, at, n),
-    }
-}
-
-// The line of an accepted answer to may: yes, or the number that a reset would be answered.
-fn put_may(out: &mut [u8], at: usize, n: u8) -> usize
-    requires { at + 8 ≤ length out.old }
-    ensures { (D : ℕ) → Wrote out.old at (answer_text D (accepted (foretells n))) out.new result }
-{
-    if n == rules::DONE {
-        return put_told(out, at, Told::Yes);
-    }
-    let a = text::put_three(out, at, rules::DONE);
-    let b = put_field(out, a, n);
-    text::put_byte(out, b, b'\n')
-}
-
-// The line of an answer to may.
-pub fn put_foretold(out: &mut [u8], at: usize, r: Foretold) -> usize
-    requires { at + 8 ≤ length out.old }
-    ensures { (D : ℕ) → Wrote out.old at (answer_text D (foretold_says r)) out.new result }
-{
-    match r {
-        Foretold::Is(n) => put_may(out, at, n),
-        Foretold::Refused(n) => put_number(out, at, n),
+    match answer {
+        Ok(value) => value.line(desks),
+        Err(refusal) => refusal_line(refusal.number()),
     }
 }

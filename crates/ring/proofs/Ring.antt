@@ -1,6 +1,8 @@
 -- Laws of the ring, for any P; the ring agrees with the line wherever the true difference is below P.
 -- Assumes nothing.
-use Rattle.std.proofs.Common.{◌≡◌, ℕ, ◌+◌, ◌-◌, ◌*◌, ◌%◌, ◌<◌, ◌≤◌, Bool, true, false, ◌&&◌, eqb, ltb, ◌⊎◌, ◌↔◌, [], ◌∷◌, map, sym, refl, ap, ◌∙◌, subst, inl, inr, true≢false, mul-le-mul_right, mod-lt, mod-eq_of_lt, arith, ltb-false, ltb-true, le-ltb, lt-ltb, eq-eqb, eqb-true, le-leb}
+use Rattle.std.proofs.Common.{◌≡◌, ℕ, ◌+◌, ◌-◌, ◌*◌, ◌%◌, ◌<◌, ◌≤◌, Bool, true, false, ◌&&◌, eqb, ltb, ◌⊎◌, ◌↔◌, [], ◌∷◌}
+use Rattle.std.proofs.Common.{map, sym, refl, ap, ◌∙◌, subst, inl, inr, true≢false, mul-le-mul_right, mod-lt, mod-eq_of_lt}
+use Rattle.std.proofs.Common.{arith, ltb-false, ltb-true, le-ltb, lt-ltb, eq-eqb, eqb-true, le-leb}
 use native.Mathlib.Nat.{mod-add-mod, add-mod_right, mod-eq-sub-mod, mod_self}
 use native.Mathlib.Decide.{dec_lt}
 use borrow.Author.Tests.{lt-leb}

@@ -1,8 +1,9 @@
 -- What the code of later answers.
 -- Assumes nothing.
---   took r   what is taken by the answer r
-use Rattle.ring.specs.declared.Taken as Code
-use Rattle.ring.specs.Phases.{Taken}
+--   took e o   what is taken where e is held: the pair in o, and then e has changed; e where there is none
+use Rattle.std.specs.Prelude.{true, false, Option, Some, None}
+use Rattle.ring.specs.Phases.{Pair, Taken}
 
-abbrev pub took : Code.Taken → Taken
-took r = record { pair = record { phase = r.phase; clock = r.clock }; changed = r.changed }
+abbrev pub took : Pair → Option Pair → Taken
+took e None = record { pair = e; changed = false }
+took e (Some f) = record { pair = f; changed = true }

@@ -2,28 +2,33 @@
 -- Assumes nothing.
 use Prim.Native.Nat.{ℕ, ◌+◌, ◌*◌, ◌≤◌, ◌<◌}
 use mathlib.Core.Path.{◌≡◌, sym, ap, ◌∙◌}
-use mathlib.Core.Bool.{true, false, not, ◌&&◌}
+use mathlib.Core.Bool.{Bool, true, false, not, ◌&&◌}
+use mir.Val.{bool_byte}
+use Rattle.std.proofs.Common.{Option, Some, None}
+use Rattle.std.specs.Option.{unwrap_or, is_some}
 use mathlib.Core.List.{List}
 use native.Mathlib.Omega.{arith}
 use lib.Dec.{eqb}
-use lib.ListN.{set}
-use Rattle.tools.specs.Tests.{count}
+use lib.ListN.{length, set, take, drop, length-take, length-drop}
+use lib.Seq.{get_or-take, get_or-drop}
+use Rattle.tools.specs.Tests.{count, counted}
 use Rattle.tools.specs.Tables.{put}
 use Rattle.tools.specs.Lists.{byte, Filled}
 use Rattle.tools.proofs.Tests.{and_false, count_cong, count_beyond}
 use Rattle.tools.proofs.Tables.{put_both}
-use Rattle.tools.proofs.Lists.{filled_more}
+use Rattle.tools.proofs.Lists.{is_tab, filled_more}
 use Rattle.ring.specs.Phases.{Pair, is_later, Taken, later}
+use Rattle.ring.specs.Took.{took}
 use Rattle.ring.proofs.Ring.{not_later}
 use Rattle.rules.specs.Setups.{limit}
 use Rattle.rules.specs.Model.{Row, zeros, own, row_in, tick, turn, taken, learns}
 use Rattle.rules.specs.Calls.{ring_of}
 use Rattle.rules.specs.Replies.{row_byte, row_bytes}
-use Rattle.book.specs.Layout.{phase_spot, clock_spot, mail_from, setup_of, row_at}
+use Rattle.book.specs.Layout.{book_size, records, row_size, row_spot, spot, phase_spot, clock_spot, mail_from, setup_of, row_at}
 use Rattle.book.specs.Sound.{sound}
 use Rattle.book.specs.Numbers.{tables_of}
 use Rattle.rules.proofs.RowBytes.{row_phase, row_clock, rows_alike}
-use Rattle.book.proofs.Rows.{set_pair}
+use Rattle.book.proofs.Rows.{row_there, set_pair}
 use Rattle.book.proofs.Told.{seat_row, read_at, own_at, few_desks, room}
 use Rattle.book.proofs.Soundness.{sound_size}
 use Rattle.book.proofs.Below.{mail_row, seat_beyond, mail_beyond}
@@ -39,6 +44,14 @@ grows s j h l m =
     let e : (own (tables_of s) j).clock ≡ (row_at s j j).clock = ap (λ (q : Pair). q.clock) (own_at s j a.eight) in
     record { at = a; clock = omega (arith, e, room s h j l) }
 
+-- the sixteen bytes at a record's row are its row
+pub row_cut : (b : List ℕ) (k a n : ℕ) → length b ≡ book_size → k < records → a ≡ spot k row_spot → n ≡ row_size
+    → take n (drop a b) ≡ row_bytes (row_at b k)
+row_cut b k a n size l e f =
+    is_tab 16 (λ c. byte b (spot k row_spot + c)) (take n (drop a b)) (simp (length-take, length-drop) (omega arith))
+    (λ i q. get_or-take n (drop a b) i 0 (omega arith) ∙ get_or-drop a b i 0 ∙ ap (λ c. byte b (c + i)) e)
+    ∙ row_there b k
+
 -- the next desk's pair of a row that is filled desk by desk
 pub filled_pair : (r : Row) (k a b : ℕ) (row : List ℕ) (x y : ℕ) → Filled 16 (2 * k) (row_byte r) row → k < 8
     → a ≡ phase_spot k → b ≡ clock_spot k → x ≡ (r k).phase → y ≡ (r k).clock
@@ -49,6 +62,16 @@ filled_pair r k a b row x y h l ea eb ex ey =
     rw (ea, eb ∙ c) (rw e at (filled_more 16 (2 * k + 1) (row_byte r) (set row (2 * k) x) y
     (filled_more 16 (2 * k) (row_byte r) row x h (omega arith) (ex ∙ sym (row_phase r k))) (omega arith)
     (ey ∙ sym (row_clock r k) ∙ ap (row_byte r) c)))
+
+-- what is taken, by the code's answer
+pub took_parts : (e : Pair) (o : Option Pair) (t : Taken) → took e o ≡ t → (unwrap_or o e ≡ t.pair) × (is_some o ≡ t.changed)
+took_parts e None t h = (ap (λ (q : Taken). q.pair) h, ap (λ (q : Taken). q.changed) h)
+took_parts e (Some f) t h = (ap (λ (q : Taken). q.pair) h, ap (λ (q : Taken). q.changed) h)
+
+-- one more is counted where it holds
+pub one_more : (t : Bool) (n : ℕ) → n + bool_byte t ≡ counted t n
+one_more true n = omega arith
+one_more false n = omega arith
 
 -- desk j's own pair is set in a row that is r for eight desks
 put_alike : (r t : Row) (j : ℕ) (q u : Pair) → q ≡ u → ((k : ℕ) → k < 8 → r k ≡ t k) → row_bytes (put r j q) ≡ row_bytes (put t j u)

@@ -2,86 +2,23 @@
 
 #![tactic(auto)]
 
-ghost use Rattle.std.specs.Prelude.{◌≡◌, true, ◌<◌, length};
+ghost use Rattle.std.specs.Prelude.{◌≡◌, ◌<◌};
 ghost use Rattle.rules.specs.Model.{tick};
 ghost use Rattle.rules.specs.Replies.{row_bytes};
-ghost use Rattle.book.specs.Layout.{book_size, records, seats, places, row_at};
-ghost use Rattle.book.specs.Sound.{sound};
+ghost use Rattle.book.specs.Layout.{records, seats, places, row_at};
 ghost use Rattle.tools.specs.Tests.{count};
-ghost use Rattle.ring.specs.Took.{took};
-ghost use Rattle.rows.specs.Rows.{AtDesk, Grows, taken_at, later_row, learns_at, with_pair};
+ghost use Rattle.rows.specs.Rows.{AtDesk, Grows, later_row, learns_at, with_pair};
 ghost use Rattle.rows.specs.Rows.{grown_row, turned_row, merged_row, learnt_from};
 
-use ring::Taken;
+use parts::BookBytes;
+use ring::Pair;
 
-// The row of a record.
-pub fn row_array(book: &[u8], k: usize) -> [u8; 16]
-    requires book_len { length book.now ≡ book_size }
-    requires k_lt_records { k < records }
-    ensures { result ≡ row_bytes (row_at book.now k) }
-{
-    tools::sixteen(book, parts::spot(k, parts::ROW))
-}
-
-fn with_pair(row: [u8; 16], desk: usize, phase: u8, clock: u8) -> [u8; 16]
-    requires { desk < seats }
-    ensures { result ≡ with_pair row desk (record { phase = phase; clock = clock }) }
-{
-    let mut next = row;
-    next[parts::phase_spot(desk)] = phase;
-    next[parts::clock_spot(desk)] = clock;
-    next
-}
-
-// The own pair comes from the desk's own seat, whatever the row says of it.
-fn ticked(book: &[u8], desk: usize, row: [u8; 16]) -> [u8; 16]
-    requires { Grows book.now desk }
-    ensures { result ≡ with_pair row desk (tick (row_at book.now desk desk)) }
-{
-    with_pair(
-        row,
-        desk,
-        parts::phase_at(book, desk, desk),
-        parts::clock_at(book, desk, desk) + 1,
-    )
-}
-
-// The row of a desk after local or send: its own clock grows by 1.
-pub fn grown_row(book: &[u8], desk: usize) -> [u8; 16]
-    requires { Grows book.now desk }
-    ensures { result ≡ row_bytes (grown_row book.now desk) }
-{
-    ticked(book, desk, row_array(book, desk))
-}
-
-// The row of a desk after reset: its own phase grows by 1 modulo P and its own clock becomes 0.
-pub fn turned_row(book: &[u8], desk: usize) -> [u8; 16]
-    requires { AtDesk book.now desk }
-    ensures { result ≡ row_bytes (turned_row book.now desk) }
-{
-    with_pair(
-        row_array(book, desk),
-        desk,
-        ring::next(parts::phase_at(book, desk, desk), parts::last_phase(book)),
-        0,
-    )
-}
-
-// What is taken for a desk of its pairs in two records. The desk's own phase is fetched once: both lags are behind it.
-fn taken_at(book: &[u8], held: usize, mailed: usize, desk: usize) -> Taken
-    requires book_len { (length book.now ≡ book_size) × (sound book.now ≡ true) }
-    requires held_lt_records { (held < records) × (mailed < records) × (desk < seats) }
-    ensures { took result ≡ taken_at book.now held mailed desk }
-{
-    let own = parts::phase_at(book, desk, desk);
-    ring::later(
-        own,
-        parts::last_phase(book),
-        parts::phase_at(book, held, desk),
-        parts::clock_at(book, held, desk),
-        parts::phase_at(book, mailed, desk),
-        parts::clock_at(book, mailed, desk),
-    )
+// A desk of a sound book.
+#[derive(Clone, Copy)]
+pub struct Desk<'a> {
+    pub book: &'a BookBytes,
+    pub number: usize,
+    ghost here: { AtDesk book.now number },
 }
 
 // A row merged from two, and how many pairs of other desks than the receiver changed.
@@ -91,43 +28,106 @@ pub struct Merged {
     pub learnt: u8,
 }
 
-// The row of the seat held, merged with a record that was mailed. The own pair is not counted.
-fn later_row(book: &[u8], held: usize, mailed: usize) -> Merged
-    requires book_len { (length book.now ≡ book_size) × (sound book.now ≡ true) }
-    requires held_lt_records { (held < records) × (mailed < records) }
-    ensures { (result.row ≡ row_bytes (later_row book.now held mailed))
-        × (result.learnt ≡ count seats (learns_at book.now held mailed)) }
+// The row of a record.
+#[tactic(auto, using(crate::proofs::Rows::row_cut))]
+pub fn row_array(book: &BookBytes, k: usize) -> [u8; 16]
+    requires { k < records }
+    ensures { result ≡ row_bytes (row_at book.now k) }
 {
-    let mut row = [0u8; 16];
-    let mut learnt: u8 = 0;
-    let mut desk: usize = 0;
-    while desk < parts::SEATS {
-        let taken = taken_at(book, held, mailed, desk);
-        row[parts::phase_spot(desk)] = taken.phase;
-        row[parts::clock_spot(desk)] = taken.clock;
-        learnt = tools::counted((desk != held) & taken.changed, learnt);
-        desk += 1;
-    }
-    Merged {
-        row: row,
-        learnt: learnt,
-    }
+    let at = parts::spot(k, parts::ROW);
+    let mut row = [0u8; parts::ROW_BYTES];
+    row.copy_from_slice(&book[at..at + parts::ROW_BYTES]);
+    row
 }
 
-// The row of a desk after receive from a mail place: its own clock grows by 1; for every other desk, the later of the two pairs. And
-// of how many desks it learns.
-pub fn merged_row(book: &[u8], desk: usize, place: usize) -> Merged
-    requires grows { Grows book.now desk }
-    requires place_lt_places { place < places }
-    ensures { (result.row ≡ row_bytes (merged_row book.now desk place))
-        × (result.learnt ≡ learnt_from book.now desk place) }
+fn with_pair(row: [u8; 16], desk: usize, pair: Pair) -> [u8; 16]
+    requires { desk < seats }
+    ensures { result ≡ with_pair row desk pair }
 {
-    let merged = later_row(book, desk, parts::MAIL + place);
-    let row = merged.row;
-    let learnt = merged.learnt;
-    let grown = ticked(book, desk, row);
-    Merged {
-        row: grown,
-        learnt: learnt,
+    let mut next = row;
+    next[parts::phase_spot(desk)] = pair.phase;
+    next[parts::clock_spot(desk)] = pair.clock;
+    next
+}
+
+impl Desk<'_> {
+    // The desk's own pair comes from its own seat, whatever the row says of it. That its clock may grow is asked here and by two callers: a
+    // type of such desks would be longer than these clauses.
+    fn ticked(self, row: [u8; 16]) -> [u8; 16]
+        requires { Grows self.book.now self.number }
+        ensures { result ≡ with_pair row self.entry.number (tick (row_at self.entry.book.now self.entry.number self.entry.number)) }
+    {
+        let own = parts::pair_at(self.book, self.number, self.number);
+        with_pair(
+            row,
+            self.number,
+            Pair {
+                phase: own.phase,
+                clock: own.clock + 1,
+            },
+        )
+    }
+
+    // Its row after local or send: its own clock grows by 1.
+    #[tactic(auto, using(crate::proofs::Rows::grown_bytes))]
+    pub fn grown_row(self) -> [u8; 16]
+        requires { Grows self.book.now self.number }
+        ensures { result ≡ row_bytes (grown_row self.entry.book.now self.entry.number) }
+    {
+        self.ticked(row_array(self.book, self.number))
+    }
+
+    // Its row after reset: its own phase grows by 1 modulo P and its own clock becomes 0.
+    #[tactic(auto, using(book::proofs::Below::phase_below, crate::proofs::Rows::turned_bytes))]
+    pub fn turned_row(self) -> [u8; 16]
+        ensures { result ≡ row_bytes (turned_row self.entry.book.now self.entry.number) }
+    {
+        let own = parts::phase_at(self.book, self.number, self.number);
+        with_pair(
+            row_array(self.book, self.number),
+            self.number,
+            Pair {
+                phase: ring::next(own, parts::last_phase(self.book)),
+                clock: 0,
+            },
+        )
+    }
+
+    // The row of its seat, merged with a record that was mailed. The own pair is not counted. Each desk's own phase is fetched once:
+    // both lags are behind it.
+    fn later_row(self, mailed: usize) -> Merged
+        requires { mailed < records }
+        ensures { (result.row ≡ row_bytes (later_row self.entry.book.now self.entry.number mailed))
+            × (result.learnt ≡ count seats (learns_at self.entry.book.now self.entry.number mailed)) }
+    {
+        let last = parts::last_phase(self.book);
+        let mut row = [0u8; 16];
+        let mut learnt: u8 = 0;
+        for k in 0..parts::SEATS {
+            let own = parts::phase_at(self.book, k, k);
+            let held = parts::pair_at(self.book, self.number, k);
+            let later = ring::later(own, last, held, parts::pair_at(self.book, mailed, k));
+            let taken = later.unwrap_or(held);
+            row[parts::phase_spot(k)] = taken.phase;
+            row[parts::clock_spot(k)] = taken.clock;
+            learnt += u8::from((k != self.number) & later.is_some());
+        }
+        Merged { row, learnt }
+    }
+
+    // Its row after receive from a mail place: its own clock grows by 1; for every other desk, the later of the two pairs. And of how
+    // many desks it learns.
+    #[tactic(auto, using(crate::proofs::Rows::merged_bytes, crate::proofs::Rows::learnt_counts))]
+    pub fn merged_row(self, place: usize) -> Merged
+        requires grows { Grows self.book.now self.number }
+        requires place_lt_places { place < places }
+        ensures { (result.row ≡ row_bytes (merged_row self.entry.book.now self.entry.number place))
+            × (result.learnt ≡ learnt_from self.entry.book.now self.entry.number place) }
+    {
+        let merged = self.later_row(parts::MAIL + place);
+        Merged {
+            row: self.ticked(merged.row),
+            learnt: merged.learnt,
+        }
     }
 }

@@ -29,7 +29,8 @@ use Rattle.tools.specs.Tests.{all_of, all_below, within, any, lowest, count}
 use Rattle.tools.specs.Tables.{put}
 use Rattle.ring.specs.Phases.{Pair, later_by}
 use Rattle.rules.specs.Setups.{Setup, permits, in_range, related, limited, limit_ok}
-use Rattle.rules.specs.Numbers.{BadBook, BadLine, number}
+use Rattle.rules.specs.declared.Refusal.TheVariants.{BadBook, BadLine}
+use Rattle.rules.specs.Numbers.{number}
 use Rattle.rules.specs.Model.{Row, Seat, Held, Label, local, reset, send, receive, drop, discard, before, compare, picture, write}
 use Rattle.rules.specs.Model.{says, names, accepted, zeros, idle, reach_back, pictured, ask_reasons, reasons, ask_tells, done, step}
 use Rattle.rules.specs.Calls.{Book, Call, start, on, fresh_book, ring_of, call}

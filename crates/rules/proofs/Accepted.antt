@@ -16,8 +16,10 @@ use Rattle.tools.proofs.Tables.{some_is, none_some}
 use Rattle.ring.specs.Phases.{Phases}
 use Rattle.rules.specs.Setups.{Setup, limit}
 use Rattle.rules.specs.Numbers.{Name, number}
-use Rattle.rules.specs.Model.{Held, Tables, Question, ask_before, ask_compare, ask_picture, ask_show, ask_write, slot_asked, Act, local, reset}
-use Rattle.rules.specs.Model.{send, receive, ask, why, stamp, says, names, shows, free_mail, slot_for, by_in, row_in, used, own, lags, seat_lags}
+use Rattle.rules.specs.Model.{Held, Tables, Question, ask_before, ask_compare, ask_picture, ask_show, ask_write, slot_asked}
+use Rattle.rules.specs.Model.{Act, local, reset}
+use Rattle.rules.specs.Model.{send, receive, ask, why, stamp, says, names, shows, free_mail, slot_for, by_in, row_in, used}
+use Rattle.rules.specs.Model.{own, lags, seat_lags}
 use Rattle.rules.specs.Model.{first_odd, second_odd, pictured, ask_tells}
 use Rattle.rules.specs.Frames.{LowestFree}
 use Rattle.rules.specs.Due.{at_local, at_send, at_sent, at_receive, at_reset, by_local, by_send, by_receive, of_receive}

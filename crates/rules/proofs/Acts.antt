@@ -17,7 +17,8 @@ use Rattle.rules.specs.Setups.{Setup, permits}
 use Rattle.rules.specs.Numbers.{Name}
 use Rattle.rules.specs.Model.{Row, Held, Tables, Act, local, reset, send, receive, drop, discard}
 use Rattle.rules.specs.Model.{before, compare, show, write, nothing, made, stamp, says, relates, shows, accepted, Result}
-use Rattle.rules.specs.Model.{own, free_mail, free_slot, slot_for, grown, taken, merged, learns, learnt, turned, near, gap_in, same_by, is_before, relation, gap_from}
+use Rattle.rules.specs.Model.{own, free_mail, free_slot, slot_for, grown, taken, merged, learns, learnt, turned, near}
+use Rattle.rules.specs.Model.{gap_in, same_by, is_before, relation, gap_from}
 use Rattle.rules.specs.Model.{by_in, row_in, ask_tells, settle, done, step}
 use Rattle.rules.specs.Due.{Due}
 use Rattle.rules.proofs.Setups.{permitted}

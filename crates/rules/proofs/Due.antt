@@ -15,16 +15,30 @@ use Rattle.tools.specs.Reasons.{Holds, Smallest}
 use Rattle.tools.proofs.Reasons.{smallest_swap}
 use Rattle.tools.proofs.Tests.{and_true_l, and_true_r, and_false, any_at, any_true, lt_or_le}
 use Rattle.ring.specs.Phases.{Phases, Gap}
-use Rattle.rules.specs.Numbers.{Name, NoDesk, SameDesk, NoPlace, NotYours, NoEvent, PhaseFull, MailFull, ShelfFull, SeatBehind}
-use Rattle.rules.specs.Numbers.{MailBehind, ShelfBehind, NoRoom, OutOfReach, WrongOwner, number}
+use Rattle.rules.specs.declared.Refusal.TheVariants.{
+  NoDesk,
+  SameDesk,
+  NoPlace,
+  NotYours,
+  NoEvent,
+  PhaseFull,
+  MailFull,
+  ShelfFull,
+  SeatBehind,
+}
+use Rattle.rules.specs.Numbers.{Name}
+use Rattle.rules.specs.declared.Refusal.TheVariants.{MailBehind, ShelfBehind, NoRoom, OutOfReach, WrongOwner}
+use Rattle.rules.specs.Numbers.{number}
 use Rattle.rules.specs.Model.{Held, Tables, Label, Act, local, reset, send, receive, drop, discard}
 use Rattle.rules.specs.Model.{ask, ask_before, ask_compare, ask_picture, ask_show, ask_write, before, compare, picture, step}
 use Rattle.rules.specs.Model.{refusal, used, free_slot, by_in, to_in, own, no_slot, at_limit, lags, near, is_out, gap_held, gap_from}
 use Rattle.rules.specs.Model.{too_far, chosen, of_two, wrong_owner, ask_reasons, reasons}
 use Rattle.rules.specs.Due.{at_local, at_send, at_sent, at_receive, at_reset, by_local, by_send, by_receive, of_receive}
 use Rattle.rules.specs.Due.{ToKeep, keep_local, keep_send, keep_receive, keep_reset}
-use Rattle.rules.specs.Due.{of_discard, OfSlot, of_drop, of_before, of_before', of_compare, of_compare', of_picture, of_show, of_write, Asks}
-use Rattle.rules.specs.Due.{asks_before, asks_compare, asks_back, asks_two, Gone, lag_in, Due, no_desk_lem, same_desk, no_mail_lem, no_slot_lem}
+use Rattle.rules.specs.Due.{of_discard, OfSlot, of_drop, of_before, of_before', of_compare, of_compare', of_picture, of_show}
+use Rattle.rules.specs.Due.{of_write, Asks}
+use Rattle.rules.specs.Due.{asks_before, asks_compare, asks_back, asks_two, Gone, lag_in, Due, no_desk_lem, same_desk}
+use Rattle.rules.specs.Due.{no_mail_lem, no_slot_lem}
 use Rattle.rules.specs.Due.{not_yours, phase_full, mail_full, shelf_full, seat_behind, mail_behind, shelf_behind, no_room}
 use Rattle.rules.specs.Due.{other_count, out_of_reach, wrong_owner_lem, DueNumber}
 use Rattle.rules.specs.Frames.{LowestFree}

@@ -10,8 +10,10 @@ use Rattle.tools.proofs.Reasons.{first_smallest, holds_above}
 use native.Mathlib.Omega.{arith}
 use Rattle.ring.specs.Phases.{Phases}
 use Rattle.rules.specs.Setups.{Setup}
-use Rattle.rules.specs.Numbers.{BadBook, number}
-use Rattle.rules.specs.Model.{Tables, Question, ask_before, ask_compare, ask_picture, ask_show, ask_write, Act, local, reset, send, receive, drop, discard, ask, Value}
+use Rattle.rules.specs.declared.Refusal.TheVariants.{BadBook}
+use Rattle.rules.specs.Numbers.{number}
+use Rattle.rules.specs.Model.{Tables, Question, ask_before, ask_compare, ask_picture, ask_show, ask_write, Act, local, reset}
+use Rattle.rules.specs.Model.{send, receive, drop, discard, ask, Value}
 use Rattle.rules.specs.Model.{refusal, is_out, ask_reasons, reasons, step}
 use Rattle.rules.specs.Calls.{reasons_of, Book, Call, start, on, Turn, settled, turn_of, call}
 use Rattle.rules.specs.Model.{Label}

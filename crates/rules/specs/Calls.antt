@@ -14,7 +14,8 @@ use Rattle.std.specs.Prelude.{Bool, true, false, not, List, [], ◌∷◌, ℕ}
 use Rattle.tools.specs.Reasons.{Reason, first, if_done}
 use Rattle.ring.specs.Phases.{Phases, ring, line}
 use Rattle.rules.specs.Setups.{Setup, permits}
-use Rattle.rules.specs.Numbers.{BadSetup, given}
+use Rattle.rules.specs.declared.Refusal.TheVariants.{BadSetup}
+use Rattle.rules.specs.Numbers.{given}
 use Rattle.rules.specs.Model.{local, reset, send, receive, drop, discard, ask}
 use Rattle.rules.specs.Model.{Tables, Act, nothing, Answer, refusal, accepted, Result, fresh, reasons, step}
 

@@ -14,8 +14,7 @@ use Rattle.std.specs.Prelude.{◌≡◌, Bool, true, ◌⊎◌, List, length, �
 use Rattle.std.proofs.Math.Option.{Option, none, some}
 use Rattle.ring.specs.Phases.{Phases}
 use Rattle.rules.specs.Setups.{Setup, limit}
-use Rattle.rules.specs.Numbers.{
-  Name,
+use Rattle.rules.specs.declared.Refusal.TheVariants.{
   NoDesk,
   SameDesk,
   NoPlace,
@@ -29,8 +28,8 @@ use Rattle.rules.specs.Numbers.{
   NoRoom,
   OutOfReach,
   WrongOwner,
-  number,
 }
+use Rattle.rules.specs.Numbers.{Name, number}
 use Rattle.rules.specs.Model.{Held, Tables, Act, local, reset, send, receive, drop, discard}
 use Rattle.rules.specs.Model.{before, compare, picture, show, write, used, own, near, chosen}
 

@@ -21,8 +21,10 @@ use Rattle.ring.specs.Phases.{Gap, lag_of}
 use Rattle.rules.specs.declared.Relation.{Relation}
 use Rattle.rules.specs.declared.Relation.TheVariants.{Before, After, Same, Concurrent, Crossed}
 use Rattle.rules.specs.Setups.{Setup, permits}
-use Rattle.rules.specs.Numbers.{BadSetup, BadStamp, OutOfReach, given}
-use Rattle.rules.specs.Model.{Row, Label, Value, says, relates, Answer, refusal, accepted, zeros, near, is_out, gap_in, is_before, relation}
+use Rattle.rules.specs.declared.Refusal.TheVariants.{BadSetup, BadStamp, OutOfReach}
+use Rattle.rules.specs.Numbers.{given}
+use Rattle.rules.specs.Model.{Row, Label, Value, says, relates, Answer, refusal, accepted, zeros, near, is_out, gap_in}
+use Rattle.rules.specs.Model.{is_before, relation}
 
 abbrev pub or_else : Option Gap → Option Gap → Option Gap
 or_else none h = h

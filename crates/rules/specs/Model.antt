@@ -11,7 +11,7 @@
 --   Act                a call on a book that is already there; the four events with whether their stamp is kept; before, compare,
 --                      picture, show, write, those that ask
 --   slot_asked q       the slot whose stamp a question hands out, none where it hands out none; slot_of c, the same of an act
---   Odds               two desks at odds, the lower one and the higher one
+--   Odds               two desks at odds, the lower one and the higher one, the code's own struct
 --   Value              what goes with the number 0, part by part
 --   tells t w o n r    a value without an event's parts: yes or no, a relation, two desks at odds, the number of a reset, a row
 --   nothing            no part; the values of the calls: made, an event's place, stamp, number of desks learnt of and slot; a stamp;
@@ -69,8 +69,9 @@ use Rattle.tools.specs.Reasons.{Reason, first, if_done}
 use Rattle.ring.specs.Phases.{Phases, Pair, Gap, later_by, lag_gap, is_later, Taken, later}
 use Rattle.rules.specs.Setups.{Setup, limit}
 use Rattle.rules.specs.declared.Relation.{Relation}
+use Rattle.rules.specs.declared.Odds as Oddly
 use Rattle.rules.specs.declared.Relation.TheVariants.{Before, After, Same, Concurrent, Crossed}
-use Rattle.rules.specs.Numbers.{
+use Rattle.rules.specs.declared.Refusal.TheVariants.{
   NoDesk,
   SameDesk,
   NoPlace,
@@ -84,8 +85,8 @@ use Rattle.rules.specs.Numbers.{
   NoRoom,
   OutOfReach,
   WrongOwner,
-  given,
 }
+use Rattle.rules.specs.Numbers.{given}
 
 abbrev pub seats : ℕ
 seats = 8
@@ -162,9 +163,8 @@ slot_of (drop s) = none
 slot_of (discard p) = none
 slot_of (ask q) = slot_asked q
 
-pub record Odds : Type 0 where
-  pub lower : ℕ
-  pub higher : ℕ
+abbrev pub Odds : Type 0
+Odds = Oddly.Odds
 
 -- the parts that a call gives; each of them is none where it gives none
 pub record Value : Type 0 where

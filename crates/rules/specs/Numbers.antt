@@ -1,14 +1,35 @@
 -- The answer table.
 -- Assumes nothing. In words: docs/RULES.md, "Answer numbers".
---   Name       why a call is refused; NoEvent is never given
+--   Name       why a call is refused, the code's own enum; NoEvent is never given
 --   number w   its number; 0 is done
 --   given w t  the name w is given when t holds
 use Rattle.std.specs.Prelude.{ℕ, Bool}
 use Rattle.tools.specs.Reasons.{Reason, when}
+use Rattle.rules.specs.declared.Refusal.{Refusal}
+use Rattle.rules.specs.declared.Refusal.TheVariants.{
+  BadBook,
+  BadSetup,
+  NoDesk,
+  SameDesk,
+  NoPlace,
+  NotYours,
+  NoEvent,
+  PhaseFull,
+  MailFull,
+  ShelfFull,
+  SeatBehind,
+  MailBehind,
+  ShelfBehind,
+  BadStamp,
+  NoRoom,
+  OutOfReach,
+  BadLine,
+  WrongOwner,
+  BadSummary,
+}
 
-pub data Name : Type 0 where
-  BadBook BadSetup NoDesk SameDesk NoPlace NotYours NoEvent PhaseFull MailFull : Name
-  ShelfFull SeatBehind MailBehind ShelfBehind BadStamp NoRoom OutOfReach BadLine WrongOwner BadSummary : Name
+abbrev pub Name : Type 0
+Name = Refusal
 
 abbrev pub number : Name → ℕ
 number BadBook = 1

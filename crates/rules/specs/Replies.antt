@@ -5,39 +5,35 @@
 --   row_byte r c     byte c of the bytes of a row
 --   row_bytes r      the bytes of a row
 --   row_of l         the row that such bytes tell: a pair for each seat's desk, zero beyond
---   slot_in k        the slot of an event that is kept; none where it is not
---   event_says n s l k   the answer of the number n: accepted with the stamp s, the number l of desks learnt of and the slot k, or refused
+--   slot_in o        the slot of an event that is kept; none where it is not
+--   number_in r      the number of the answer r: 0 where it is done
+--   answer_by v r    the answer r: accepted with the value that v tells, or refused
+--   event p s l k    the value of an event: its place p, its stamp s, the number l of desks learnt of and the slot k
+--   done_value, stamped_value, received_value, sent_value   of a call that gives nothing; of local and reset; of receive; of send
+--   odds_value o     yes, or two desks at odds
+--   reset_value o    the number that a reset would be refused with, 0 where it would be accepted
+--   done_says        what an answer without a value says
 --   stamped_says     what the answer to local or reset says
 --   received_says    what the answer to receive says
---   posted_says      what the answer to send says, its stamp and whether it is kept beside it
+--   sent_says        what the answer to send says
 --   told_says        what the answer to before says
 --   compared_says    what the answer to compare says
 --   pictured_says    what the answer to picture says
 --   foretold_says    what the answer to may says
---   blank            owner 0 and sixteen zeros
---   Beside n s k     the stamp s and the slot k beside the number n: blank and none where n is a refusal
---   BesideLearnt n l   the number l of desks learnt of beside the number n: 0 where n is a refusal
---   BesidePost p s k   the same beside the answer p to send
-use Rattle.std.specs.Prelude.{◌≡◌, true, false, List, ℕ, zero, suc, ◌+◌, ◌*◌, ◌/◌, ◌%◌, ltb, eqb, replicate}
+use Rattle.std.specs.Prelude.{true, Bool, List, ℕ, ◌+◌, ◌*◌, ◌/◌, ◌%◌, ltb, eqb, Some, None, Result, Ok, Err}
+use Rattle.std.specs.Prelude as Std
 use Rattle.std.proofs.Math.Option.{Option, none, some}
 use Rattle.tools.specs.Tests.{pick}
 use Rattle.tools.specs.Lists.{byte, tab}
 use Rattle.rules.specs.declared.Stamp.{Stamp}
 use Rattle.rules.specs.declared.Stamped.{Stamped}
 use Rattle.rules.specs.declared.Received.{Received}
-use Rattle.rules.specs.declared.Posted.{Posted}
-use Rattle.rules.specs.declared.Posted.TheVariants as Posts
-use Rattle.rules.specs.declared.Kept.{Kept}
-use Rattle.rules.specs.declared.Kept.TheVariants as Keeps
-use Rattle.rules.specs.declared.Told.{Told}
-use Rattle.rules.specs.declared.Told.TheVariants as Tells
-use Rattle.rules.specs.declared.Compared.{Compared}
-use Rattle.rules.specs.declared.Compared.TheVariants as Compares
-use Rattle.rules.specs.declared.Pictured.{Pictured}
-use Rattle.rules.specs.declared.Pictured.TheVariants as Pictures
-use Rattle.rules.specs.declared.Foretold.{Foretold}
-use Rattle.rules.specs.declared.Foretold.TheVariants as Foretells
-use Rattle.rules.specs.Model.{seats, Row, made, says, relates, names, foretells, Answer, refusal, accepted, zeros}
+use Rattle.rules.specs.declared.Sent.{Sent}
+use Rattle.rules.specs.declared.Refusal.{Refusal}
+use Rattle.rules.specs.declared.Relation.{Relation}
+use Rattle.rules.specs.Numbers.{number}
+use Rattle.rules.specs.Model.{seats, Row, Odds, Value, made, nothing, says, relates, names, foretells, Answer, refusal}
+use Rattle.rules.specs.Model.{accepted, zeros}
 
 abbrev pub row_size : ℕ
 row_size = 16
@@ -57,52 +53,61 @@ row_bytes r = tab 0 row_size (row_byte r)
 abbrev pub row_of : List ℕ → Row
 row_of l k = pick (ltb k seats) (record { phase = byte l (phase_spot k); clock = byte l (clock_spot k) }) (zeros k)
 
-abbrev pub slot_in : Kept → Option ℕ
-slot_in Keeps.No = none
-slot_in (Keeps.In s) = some s
+abbrev pub slot_in : Std.Option ℕ → Option ℕ
+slot_in None = none
+slot_in (Some s) = some s
 
-unfoldable pub event_says : ℕ → Stamp → Option ℕ → Kept → Answer
-event_says n s l k = pick (eqb n 0) (accepted (made none s.owner (row_of s.row) l (slot_in k))) (refusal n)
+abbrev pub number_in : {A : Type 0} → Result A Refusal → ℕ
+number_in (Ok x) = 0
+number_in (Err r) = number r
 
-abbrev pub stamped_says : Stamped → Answer
-stamped_says r = event_says r.number r.stamp none r.kept
+abbrev pub answer_by : {A : Type 0} → (A → Value) → Result A Refusal → Answer
+answer_by v (Ok x) = accepted (v x)
+answer_by v (Err r) = refusal (number r)
 
-abbrev pub received_says : Received → Answer
-received_says r = event_says r.number r.stamp (some r.learnt) r.kept
+abbrev pub event : Option ℕ → Stamp → Option ℕ → Std.Option ℕ → Value
+event p s l k = made p s.owner (row_of s.row) l (slot_in k)
 
-abbrev pub posted_says : Posted → Stamp → Kept → Answer
-posted_says (Posts.At p) s k = accepted (made (some p) s.owner (row_of s.row) none (slot_in k))
-posted_says (Posts.Refused n) s k = refusal n
+abbrev pub done_value : Unit {0} → Value
+done_value u = nothing
 
-abbrev pub told_says : Told → Answer
-told_says Tells.Yes = accepted (says true)
-told_says Tells.No = accepted (says false)
-told_says (Tells.Refused n) = refusal n
+abbrev pub stamped_value : Stamped → Value
+stamped_value r = event none r.stamp none r.slot
 
-abbrev pub compared_says : Compared → Answer
-compared_says (Compares.Is r) = accepted (relates r)
-compared_says (Compares.Refused n) = refusal n
+abbrev pub received_value : Received → Value
+received_value r = event none r.stamp (some r.learnt) r.slot
 
-abbrev pub pictured_says : Pictured → Answer
-pictured_says Pictures.Yes = accepted (says true)
-pictured_says (Pictures.Odds i k) = accepted (names i k)
-pictured_says (Pictures.Refused n) = refusal n
+abbrev pub sent_value : Sent → Value
+sent_value r = event (some r.place) r.stamp none r.slot
 
-abbrev pub foretold_says : Foretold → Answer
-foretold_says (Foretells.Is n) = accepted (foretells n)
-foretold_says (Foretells.Refused n) = refusal n
+abbrev pub odds_value : Std.Option Odds → Value
+odds_value None = says true
+odds_value (Some o) = names o.lower o.higher
 
-abbrev pub blank : Stamp
-blank = record { owner = 0; row = replicate row_size 0 }
+abbrev pub reset_value : Std.Option Refusal → Value
+reset_value None = foretells 0
+reset_value (Some r) = foretells (number r)
 
-abbrev pub Beside : ℕ → Stamp → Kept → Type 0
-Beside zero s k = Unit {0}
-Beside (suc n) s k = (s ≡ blank) × (k ≡ Keeps.No)
+abbrev pub done_says : Result (Unit {0}) Refusal → Answer
+done_says = answer_by done_value
 
-abbrev pub BesideLearnt : ℕ → ℕ → Type 0
-BesideLearnt zero l = Unit {0}
-BesideLearnt (suc n) l = l ≡ 0
+abbrev pub stamped_says : Result Stamped Refusal → Answer
+stamped_says = answer_by stamped_value
 
-abbrev pub BesidePost : Posted → Stamp → Kept → Type 0
-BesidePost (Posts.At p) s k = Unit {0}
-BesidePost (Posts.Refused n) s k = (s ≡ blank) × (k ≡ Keeps.No)
+abbrev pub received_says : Result Received Refusal → Answer
+received_says = answer_by received_value
+
+abbrev pub sent_says : Result Sent Refusal → Answer
+sent_says = answer_by sent_value
+
+abbrev pub told_says : Result Bool Refusal → Answer
+told_says = answer_by says
+
+abbrev pub compared_says : Result Relation Refusal → Answer
+compared_says = answer_by relates
+
+abbrev pub pictured_says : Result (Std.Option Odds) Refusal → Answer
+pictured_says = answer_by odds_value
+
+abbrev pub foretold_says : Result (Std.Option Refusal) Refusal → Answer
+foretold_says = answer_by reset_value

@@ -6,8 +6,7 @@ use mathlib.Core.Bool.{Bool, true, false, not, ◌&&◌}
 use mathlib.Core.List.{List, [], ◌∷◌}
 use lib.Dec.{leb, ltb, eqb}
 use lib.ListN.{length}
-use borrow.Author.Tests.{eqb-true, eq-eqb, ne_eqb, lt-ltb, le-ltb}
-use Rattle.tools.proofs.Tests.{each}
+use borrow.Author.Tests.{eq-eqb, ne_eqb, lt-ltb, le-ltb}
 use Rattle.tools.specs.Tests.{pick, all_of, all_below}
 use Rattle.tools.specs.Lists.{byte}
 use Rattle.rules.specs.declared.SetupNumbers.{SetupNumbers}
@@ -17,45 +16,13 @@ use Rattle.rules.specs.Labels.{settle_off}
 use Rattle.summary.specs.Summary.{lags_at, lags_in}
 use Rattle.summary.specs.May.{lags_ok, summary_ok, reset_number, may_of}
 
--- the three tests of desk j's lags, whatever they say
-abbrev numbered : Bool → Bool → Bool → ℕ
-numbered t u v = pick t 11 (pick u 12 (pick v 13 0))
-
--- the first of desk j's lags that is at its bound tells the number; they stand from the byte `at` on
-module _ (X : Setup) (m : List ℕ) (j at : ℕ) (e : at ≡ lags_at j) where
-  number_is : reset_number X (lags_in m j)
-      ≡ numbered (eqb (byte m at) X.seat_lag) (eqb (byte m (at + 1)) (2 * X.seat_lag)) (eqb (byte m (at + 2)) X.shelf_lag)
-  number_is =
-      λ i.
-      numbered (eqb (byte m (sym e i)) X.seat_lag) (eqb (byte m (sym e i + 1)) (2 * X.seat_lag))
-      (eqb (byte m (sym e i + 2)) X.shelf_lag)
-
-  pub seat_first : byte m at ≡ X.seat_lag → 11 ≡ reset_number X (lags_in m j)
-  seat_first q = sym (number_is ∙ rw (eq-eqb (byte m at) X.seat_lag q))
-
-  module _ (na : byte m at ≡ X.seat_lag → ⊥) where
-    pub mail_next : byte m (at + 1) ≡ 2 * X.seat_lag → 12 ≡ reset_number X (lags_in m j)
-    mail_next q =
-        sym (number_is ∙ rw (ne_eqb (byte m at) X.seat_lag na, eq-eqb (byte m (at + 1)) (2 * X.seat_lag) q))
-
-    module _ (nb : byte m (at + 1) ≡ 2 * X.seat_lag → ⊥) where
-      no_earlier : (t : Bool) → eqb (byte m (at + 2)) X.shelf_lag ≡ t → reset_number X (lags_in m j) ≡ pick t 13 0
-      no_earlier t h =
-          number_is
-          ∙ (λ i. numbered (ne_eqb (byte m at) X.seat_lag na i) (ne_eqb (byte m (at + 1)) (2 * X.seat_lag) nb i) (h i))
-
-      pub shelf_last : byte m (at + 2) ≡ X.shelf_lag → 13 ≡ reset_number X (lags_in m j)
-      shelf_last q = sym (no_earlier true (eq-eqb (byte m (at + 2)) X.shelf_lag q))
-
-      pub none_behind : (byte m (at + 2) ≡ X.shelf_lag → ⊥) → 0 ≡ reset_number X (lags_in m j)
-      none_behind n = sym (no_earlier false (ne_eqb (byte m (at + 2)) X.shelf_lag n))
-
 -- the bytes of a summary, clause by clause
 module _ (X : Setup) (m : List ℕ) where
   abbrev all_keep : Bool
   all_keep =
       all_below 8
-      (λ j. all_of (leb (byte m (lags_at j)) X.seat_lag ∷ leb (byte m (lags_at j + 1)) (2 * X.seat_lag) ∷ leb (byte m (lags_at j + 2)) X.shelf_lag ∷ []))
+      (λ j.
+      all_of (leb (byte m (lags_at j)) X.seat_lag ∷ leb (byte m (lags_at j + 1)) (2 * X.seat_lag) ∷ leb (byte m (lags_at j + 2)) X.shelf_lag ∷ []))
 
   ok_is : summary_ok X m ≡ (eqb (length m) 26 && (eqb (byte m 0) 0x53 && (eqb (byte m 1) 0x55 && all_keep)))
   unfolding summary_ok all_of lags_ok
@@ -109,7 +76,3 @@ module _ (s : SetupNumbers) (l m : List ℕ) (j : ℕ) where
           → accepted (foretells r) ≡ may_of given_setup m j
       foretells_reset b r e =
           (λ i. accepted (foretells (e i))) ∙ sym (may_is ∙ (λ i. asked (p i) (lt-ltb j s.desks n i) (b i)))
-
-pub summary_size_lem : (X : Setup) (m : List ℕ) → summary_ok X m ≡ true → length m ≡ 26
-unfolding summary_ok
-summary_size_lem X m h = eqb-true (length m) 26 (each _ h 0)

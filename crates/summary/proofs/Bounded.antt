@@ -54,6 +54,7 @@ module _ (m : List ℕ) (l : Lags) where
       let d = ap (byte most) two ∙ ap (λ (l : Lags). l.shelf) r in
       λ i. leb (byte m (lags_at j)) (r i).seats && (leb (byte m (one i)) (b i) && leb (byte m (two i)) (d i))
 
-  pub bounds_keep : (true && all_below 24 keeps)
-      ≡ all_below 8 (λ j. all_of (leb (byte m (lags_at j)) l.seats ∷ leb (byte m (lags_at j + 1)) l.mail ∷ leb (byte m (lags_at j + 2)) l.shelf ∷ []))
+  pub bounds_keep : all_below 24 keeps
+      ≡ all_below 8
+      (λ j. all_of (leb (byte m (lags_at j)) l.seats ∷ leb (byte m (lags_at j + 1)) l.mail ∷ leb (byte m (lags_at j + 2)) l.shelf ∷ []))
   bounds_keep = by_three keeps 8 ∙ all_same _ _ 8 desk_keeps

@@ -32,7 +32,8 @@ use Rattle.tools.proofs.Lists.{length_tab, tab_at}
 use Rattle.tools.proofs.Largest.{largest_least, largest_bound}
 use Rattle.ring.specs.Phases.{Phases}
 use Rattle.rules.specs.Setups.{Setup}
-use Rattle.rules.specs.Numbers.{NoDesk, ShelfFull, BadSummary, number}
+use Rattle.rules.specs.declared.Refusal.TheVariants.{NoDesk, ShelfFull, BadSummary}
+use Rattle.rules.specs.Numbers.{number}
 use Rattle.rules.specs.Model.{Held, Tables, Act, reset, foretells, Answer, refusal, accepted, phases, no_shelf, lags, seat_lags, reasons, why}
 use Rattle.rules.specs.Calls.{on, ring_of}
 use Rattle.rules.proofs.Setups.{Permitted, permitted}

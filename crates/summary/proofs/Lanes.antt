@@ -1,7 +1,7 @@
 -- Sixteen bytes with a number for each desk, as they are filled and as the larger is taken.
 -- Assumes nothing.
 --   Widened l₀ f c l   l has, below the byte c, the larger of the lane in l₀ and f; from there on l₀'s
-use Prim.Native.Nat.{ℕ, ◌+◌, ◌*◌, ◌-◌, ◌≤◌, ◌<◌}
+use Prim.Native.Nat.{ℕ, max, ◌+◌, ◌*◌, ◌-◌, ◌≤◌, ◌<◌}
 use mathlib.Core.Path.{◌≡◌, sym, ap, subst, ◌∙◌}
 use mathlib.Core.Bool.{true}
 use mathlib.Core.List.{List, ◌++◌}
@@ -16,7 +16,7 @@ use borrow.Author.Tests.{lt-ltb, le-ltb, eq-eqb, ne_eqb}
 use Rattle.tools.specs.Tests.{pick, larger, largest}
 use Rattle.tools.specs.Lists.{byte, mid}
 use Rattle.tools.proofs.Lists.{zero_at, mid_length, mid_in, mid_other}
-use Rattle.tools.proofs.Largest.{larger_first, largest_none, largest_next}
+use Rattle.tools.proofs.Largest.{larger_second, larger_first, largest_none, largest_next}
 use Rattle.tools.proofs.Tests.{eq_or_ne, same_by_lem, pick_true, pick_false, lt_or_le}
 use Rattle.ring.specs.Phases.{lag_of}
 use Rattle.ring.proofs.Ring.{lag_by_last}
@@ -26,6 +26,11 @@ use Rattle.book.proofs.Below.{phase_below}
 use Rattle.book.proofs.Told.{own_at, read_at}
 use Rattle.reasons.specs.Held.{lag_in}
 use Rattle.summary.specs.Lanes.{Lanes, own_phase_at, place_lag, held_most, Both}
+
+-- the larger of two numbers, as the code takes it
+pub larger_max : (a b : ℕ) → max a b ≡ larger a b
+larger_max a b =
+    ⊎_elim (λ (h : a < b). omega (arith, larger_second a b h)) (λ (h : b ≤ a). omega (arith, larger_first a b h)) (lt_or_le a b)
 
 pub lanes_none : (f : ℕ → ℕ) (l : List ℕ) → length l ≡ 16 → Lanes 0 f l
 lanes_none f l e = record { size = e; at = λ j m. absurd (not-suc-le-zero m) }
@@ -48,7 +53,8 @@ lanes_more f n l p q v w m h ep eq ev =
 
 pub record Widened (l₀ : List ℕ) (f : ℕ → ℕ) (c : ℕ) (l : List ℕ) : Type 0 where
   pub size : length l ≡ 16
-  pub at : (j : ℕ) → j < 8 → byte l (phase_spot j) ≡ pick (ltb (phase_spot j) c) (larger (byte l₀ (phase_spot j)) (f j)) (byte l₀ (phase_spot j))
+  pub at : (j : ℕ) → j < 8
+      → byte l (phase_spot j) ≡ pick (ltb (phase_spot j) c) (larger (byte l₀ (phase_spot j)) (f j)) (byte l₀ (phase_spot j))
 
 pub widened_none : (l : List ℕ) (f : ℕ → ℕ) → length l ≡ 16 → Widened l f 0 l
 widened_none l f e = record { size = e; at = λ j m. sym (pick_false _ _ _ (le-ltb (phase_spot j) 0 (omega arith))) }
@@ -83,10 +89,6 @@ pub widened_all : (l₀ : List ℕ) (f : ℕ → ℕ) (l : List ℕ) → Widened
     → Lanes 8 (λ j. larger (byte l₀ (phase_spot j)) (f j)) l
 widened_all l₀ f l h =
     record { size = h.size; at = λ j m. h.at j m ∙ pick_true _ _ _ (lt-ltb (phase_spot j) 16 (omega arith)) }
-
--- lanes of other numbers that are the same
-pub lanes_as : (f g : ℕ → ℕ) (l : List ℕ) → ((j : ℕ) → j < 8 → f j ≡ g j) → Lanes 8 f l → Lanes 8 g l
-lanes_as f g l e h = record { size = h.size; at = λ j m. h.at j m ∙ e j m }
 
 pub lanes_zero : Lanes 8 (λ j. 0) (replicate 16 0)
 lanes_zero = record { size = length-replicate {A = ℕ} 16 0; at = λ j m. zero_at 16 (phase_spot j) }

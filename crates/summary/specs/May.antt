@@ -10,7 +10,8 @@ use Rattle.tools.specs.Tests.{all_of, all_below}
 use Rattle.tools.specs.Lists.{byte}
 use Rattle.tools.specs.Reasons.{Reason, first}
 use Rattle.rules.specs.Setups.{Setup, permits}
-use Rattle.rules.specs.Numbers.{BadSetup, NoDesk, SeatBehind, MailBehind, ShelfBehind, BadSummary, given}
+use Rattle.rules.specs.declared.Refusal.TheVariants.{BadSetup, NoDesk, SeatBehind, MailBehind, ShelfBehind, BadSummary}
+use Rattle.rules.specs.Numbers.{given}
 use Rattle.rules.specs.Model.{seats, foretells, Answer, no_desk}
 use Rattle.rules.specs.Labels.{settle_off}
 use Rattle.summary.specs.Summary.{Lags, summary_size, summary_mark0, summary_mark1, lags_in}

@@ -22,7 +22,8 @@ use Rattle.tools.specs.Lists.{byte, tab}
 use Rattle.tools.specs.Reasons.{Reason}
 use Rattle.ring.specs.Phases.{Phases}
 use Rattle.rules.specs.Setups.{Setup}
-use Rattle.rules.specs.Numbers.{BadSummary, given}
+use Rattle.rules.specs.declared.Refusal.TheVariants.{BadSummary}
+use Rattle.rules.specs.Numbers.{given}
 use Rattle.rules.specs.Model.{places, Held, Tables, own}
 use Rattle.rules.specs.Calls.{Book, ring_of}
 use Rattle.book.specs.Codec.{decode}

@@ -6,8 +6,9 @@ ghost use Rattle.std.specs.Prelude.{◌≡◌, true, [], ◌∷◌, ◌+◌, ◌
 ghost use Rattle.tools.specs.Tests;
 ghost use Rattle.tools.specs.Tests.{all_of, all_below};
 ghost use Rattle.tools.specs.Lists.{byte};
-ghost use Rattle.rules.specs.Setups.{setup_with};
-ghost use Rattle.rules.specs.Replies.{foretold_says};
+ghost use Rattle.rules.specs.Setups.{setup_with, setup_in};
+ghost use Rattle.rules.specs.Model.{foretells};
+ghost use Rattle.rules.specs.Replies.{reset_value, foretold_says};
 ghost use Rattle.rules.specs.Calls.{ring_of};
 ghost use Rattle.book.specs.Layout.{records, row_size, phase_spot, seats, places, shelf_from};
 ghost use Rattle.book.specs.Sound.{sound};
@@ -17,9 +18,13 @@ ghost use Rattle.summary.specs.Summary.{summary_size, lags_at, lags_in, level, s
 ghost use Rattle.summary.specs.May.{summary_ok, reset_number, may_of};
 ghost use Rattle.summary.specs.Lanes.{Lanes, own_phase_at, seats_most, place_lag, held_most, Both, lags_by};
 
-use rules::{Foretold, SetupNumbers};
+use parts::BookBytes;
+use rules::{GivenSetup, Refusal, SetupNumbers};
 
 pub const SUMMARY_BYTES: usize = 26;
+
+// The bytes of a summary.
+pub type SummaryBytes = [u8; SUMMARY_BYTES];
 
 // The mark of a summary, its first two bytes.
 const MARK0: u8 = 0x53;
@@ -35,136 +40,124 @@ fn lags_at(desk: usize) -> usize
 }
 
 // Each desk's own pair, as a row has them.
-fn own_row(book: &[u8]) -> [u8; 16]
-    requires { sound book.now ≡ true }
+fn own_row(book: &BookBytes) -> [u8; 16]
     ensures { Lanes seats (own_phase_at book.now) result }
 {
     let mut own = [0u8; 16];
-    let mut j: usize = 0;
-    while j < parts::SEATS {
+    for j in 0..parts::SEATS {
         own[parts::phase_spot(j)] = parts::phase_at(book, j, j);
         own[parts::clock_spot(j)] = parts::clock_at(book, j, j);
-        j += 1;
     }
     own
 }
 
-// The larger of the lags so far and those in a row. Its clocks go along and tell nothing: so sixteen bytes are taken at once.
-fn row_lags(book: &[u8], own: &[u8; 16], k: usize, lags: &mut [u8])
-    requires book_value { sound book.now ≡ true }
-    requires lanes { Lanes seats (own_phase_at book.now) own.now × (k < records) × (length lags.old ≡ row_size) }
-    ensures { Lanes seats (λ j. Tests.larger (byte lags.old (phase_spot j)) (lag_in book.now j k))
-        lags.new }
-{
-    let last = parts::last_phase(book);
-    let mut c: usize = 0;
-    while c < parts::ROW_BYTES {
-        let lag = ring::lag(own[c], parts::byte_at(book, k, parts::ROW + c), last);
-        lags[c] = tools::larger(lags[c], lag);
-        c += 1;
-    }
+// A sound book, and each desk's own pair, by which the lags in its rows are taken.
+#[derive(Clone, Copy)]
+struct Own<'a> {
+    book: &'a BookBytes,
+    row: [u8; 16],
+    ghost of_sound: { sound book.now ≡ true },
+    ghost lanes: { Lanes seats (own_phase_at book.now) row },
 }
 
-// In the seats of all desks. In its own seat a desk's phase does not lag, so that none has to be left out.
-fn seats_lags(book: &[u8], own: &[u8; 16], lags: &mut [u8])
-    requires book_value { sound book.now ≡ true }
-    requires lanes { Lanes seats (own_phase_at book.now) own.now × Lanes seats (λ j. 0) lags.old }
-    ensures { Lanes seats (seats_most book.now) lags.new }
-{
-    let d = parts::desks_of(book);
-    let mut k: usize = 0;
-    while k < d {
-        row_lags(book, own, k, lags);
-        k += 1;
+impl Own<'_> {
+    // The larger of the lags so far and those in a row. Its clocks go along and tell nothing: so sixteen bytes are taken at once.
+    fn row_lags(&self, k: usize, lags: &mut [u8])
+        requires { (k < records) × (length lags.old ≡ row_size) }
+        ensures { Lanes seats (λ j. Tests.larger (byte lags.old (phase_spot j)) (lag_in self.now.book.now j k))
+            lags.new }
+    {
+        let last = parts::last_phase(self.book);
+        for c in 0..parts::ROW_BYTES {
+            let lag = ring::lag(
+                self.row[c],
+                parts::byte_at(self.book, k, parts::ROW + c),
+                last,
+            );
+            lags[c] = lags[c].max(lag);
+        }
     }
-}
 
-// In a place or slot, counted from the record first on; a free one lags nowhere.
-fn place_lags(book: &[u8], own: &[u8; 16], first: usize, place: usize, lags: &mut [u8])
-    requires book_value { sound book.now ≡ true }
-    requires lanes { Lanes seats (own_phase_at book.now) own.now × (first ≤ shelf_from) × (place < places) × (length lags.old ≡ row_size) }
-    ensures { Lanes seats (λ j. Tests.larger (byte lags.old (phase_spot j)) (place_lag book.now first j place))
-        lags.new }
-{
-    if parts::tag_a(book, first + place) == parts::FREE {
-        return;
+    // In the seats of all desks. In its own seat a desk's phase does not lag, so that none has to be left out.
+    fn seats_lags(&self, lags: &mut [u8])
+        requires { Lanes seats (λ j. 0) lags.old }
+        ensures { Lanes seats (seats_most self.now.book.now) lags.new }
+    {
+        let d = parts::desks_of(self.book);
+        for k in 0..d {
+            self.row_lags(k, lags);
+        }
     }
-    row_lags(book, own, first + place, lags);
-}
 
-// In 32 places or slots, from the record first on.
-fn held_lags(book: &[u8], own: &[u8; 16], first: usize, lags: &mut [u8])
-    requires book_value { sound book.now ≡ true }
-    requires lanes { Lanes seats (own_phase_at book.now) own.now × (first ≤ shelf_from) × Lanes seats (λ j. 0) lags.old }
-    ensures { Lanes seats (held_most book.now first) lags.new }
-{
-    let mut p: usize = 0;
-    while p < parts::PLACES {
-        place_lags(book, own, first, p, lags);
-        p += 1;
+    // In a place or slot, counted from the record first on; a free one lags nowhere.
+    fn place_lags(&self, first: usize, place: usize, lags: &mut [u8])
+        requires { (first ≤ shelf_from) × (place < places) × (length lags.old ≡ row_size) }
+        ensures { Lanes seats (λ j. Tests.larger (byte lags.old (phase_spot j)) (place_lag self.now.book.now first j place))
+            lags.new }
+    {
+        if parts::tag_a(self.book, first + place) == parts::FREE {
+            return;
+        }
+        self.row_lags(first + place, lags);
     }
-}
 
-// In the mail, then in the slots: by one loop, so that the lags stay in memory, sixteen bytes side by side.
-fn both_lags(book: &[u8], own: &[u8; 16]) -> [u8; 32]
-    requires book_value { sound book.now ≡ true }
-    requires lanes { Lanes seats (own_phase_at book.now) own.now }
-    ensures { Both book.now result }
-{
-    let mut lags = [0u8; 32];
-    let mut q: usize = 0;
-    while q < 2 {
-        let a = parts::ROW_BYTES * q;
-        let e = a + parts::ROW_BYTES;
-        held_lags(book, own, parts::MAIL + parts::PLACES * q, &mut lags[a..e]);
-        q += 1;
+    // In 32 places or slots, from the record first on.
+    fn held_lags(&self, first: usize, lags: &mut [u8])
+        requires { (first ≤ shelf_from) × Lanes seats (λ j. 0) lags.old }
+        ensures { Lanes seats (held_most self.now.book.now first) lags.new }
+    {
+        for p in 0..parts::PLACES {
+            self.place_lags(first, p, lags);
+        }
     }
-    lags
+
+    // In the mail, then in the slots: by one loop, so that the lags stay in memory, sixteen bytes side by side.
+    fn both_lags(&self) -> [u8; 32]
+        ensures { Both self.now.book.now result }
+    {
+        let mut lags = [0u8; 32];
+        for q in 0..2 {
+            let a = parts::ROW_BYTES * q;
+            let e = a + parts::ROW_BYTES;
+            self.held_lags(parts::MAIL + parts::PLACES * q, &mut lags[a..e]);
+        }
+        lags
+    }
 }
 
 // A summary is written: its mark, and for each desk its lags in seats, in mail and in slots.
-fn write(summary: &mut [u8], seats: &[u8], mail: &[u8], shelf: &[u8])
-    requires summary_len { length summary.old ≡ summary_size }
-    requires seats_len { (length seats.now ≡ row_size) × (length mail.now ≡ row_size) × (length shelf.now ≡ row_size) }
+fn write(summary: &mut SummaryBytes, seats: &[u8; 16], mail: &[u8], shelf: &[u8])
+    requires { (length mail.now ≡ row_size) × (length shelf.now ≡ row_size) }
     ensures { summary.new ≡ summary_with (lags_by seats.now mail.now shelf.now) }
 {
     summary[0] = MARK0;
     summary[1] = MARK1;
-    let mut j: usize = 0;
-    while j < parts::SEATS {
+    for j in 0..parts::SEATS {
         let at = lags_at(j);
         let p = parts::phase_spot(j);
         summary[at] = seats[p];
         summary[at + 1] = mail[p];
         summary[at + 2] = shelf[p];
-        j += 1;
     }
 }
 
-// The same, the lags in mail and those in slots being one after the other.
-fn write_both(summary: &mut [u8], seats: &[u8], held: &[u8])
-    requires { (length summary.old ≡ summary_size) × (length seats.now ≡ row_size) × (length held.now ≡ 2 * row_size) }
-    ensures { summary.new ≡ summary_with
-        (lags_by seats.now (take row_size held.now) (take row_size (drop row_size held.now))) }
-{
-    write(summary, seats, &held[0..16], &held[16..32]);
-}
-
 // The summary of a book, whatever its bytes were.
-pub fn renew(book: &[u8], summary: &mut [u8])
-    requires { (sound book.now ≡ true) × (length summary.old ≡ summary_size) }
+pub fn renew(book: &BookBytes, summary: &mut SummaryBytes)
+    requires { sound book.now ≡ true }
     ensures { summary.new ≡ summary_of ring_of (decode book.now) }
 {
-    let own = own_row(book);
+    let own = Own {
+        book,
+        row: own_row(book),
+    };
     let mut seats = [0u8; 16];
-    seats_lags(book, &own, &mut seats);
-    let held = both_lags(book, &own);
-    write_both(summary, &seats, &held);
+    own.seats_lags(&mut seats);
+    let held = own.both_lags();
+    write(summary, &seats, &held[0..16], &held[16..32]);
 }
 
 // The summary of a fresh book, in which nothing lags.
-pub fn clear(summary: &mut [u8])
-    requires { length summary.old ≡ summary_size }
+pub fn clear(summary: &mut SummaryBytes)
     ensures { summary.new ≡ summary_with (λ j. level) }
 {
     let none = [0u8; 16];
@@ -172,42 +165,33 @@ pub fn clear(summary: &mut [u8])
 }
 
 // The summary whose every lag is at its bound.
-fn bounds(seat: u8, mail: u8, shelf: u8) -> [u8; 26]
+fn bounds(seat: u8, mail: u8, shelf: u8) -> SummaryBytes
     ensures { result ≡ summary_with (λ j. record { seats = seat; mail = mail; shelf = shelf }) }
 {
-    let mut most = [0u8; 26];
-    let in_seats = [seat; 16];
-    let in_mail = [mail; 16];
-    let on_shelf = [shelf; 16];
-    write(&mut most, &in_seats, &in_mail, &on_shelf);
+    let mut most = [0u8; SUMMARY_BYTES];
+    write(&mut most, &[seat; 16], &[mail; 16], &[shelf; 16]);
     most
 }
 
 // Whether no lag of the eight desks passes its bound: beside a summary of the bounds, sixteen bytes are compared at once.
-fn lags_ok(summary: &[u8], seat: u8, mail: u8, shelf: u8) -> bool
-    requires { length summary.now ≡ summary_size }
+fn lags_ok(summary: &SummaryBytes, seat: u8, mail: u8, shelf: u8) -> bool
     ensures { result ≡ all_below seats (λ j. all_of
         (leb (byte summary.now (lags_at j)) seat ∷ leb (byte summary.now (lags_at j + 1)) mail
         ∷ leb (byte summary.now (lags_at j + 2)) shelf ∷ [])) }
 {
     let most = bounds(seat, mail, shelf);
     let mut ok = true;
-    let mut i: usize = 0;
-    while i < 3 * parts::SEATS {
+    for i in 0..3 * parts::SEATS {
         ok = ok & (summary[2 + i] <= most[2 + i]);
-        i += 1;
     }
     ok
 }
 
 // Whether the bytes are a summary with its mark, and no lag passes its bound. The six numbers are in range.
-fn summary_ok(s: SetupNumbers, summary: &[u8]) -> bool
+fn summary_ok(s: SetupNumbers, summary: &SummaryBytes) -> bool
     requires { (s.seat_lag ≤ 127) × (s.shelf_lag ≤ 255) }
     ensures { result ≡ summary_ok (setup_with s []) summary.now }
 {
-    if summary.len() != SUMMARY_BYTES {
-        return false;
-    }
     let lags = lags_ok(
         summary,
         s.seat_lag as u8,
@@ -217,37 +201,40 @@ fn summary_ok(s: SetupNumbers, summary: &[u8]) -> bool
     (summary[0] == MARK0) & ((summary[1] == MARK1) & lags)
 }
 
-// The number that a reset of a desk would be answered, by its three lags.
-fn reset_number(s: SetupNumbers, summary: &[u8], desk: usize) -> u8
-    requires seat_lag_bound { (s.seat_lag ≤ 127) × (s.shelf_lag ≤ 255) }
-    requires summary_len { (length summary.now ≡ summary_size) × (desk < seats) }
-    ensures { result ≡ reset_number (setup_with s []) (lags_in summary.now desk) }
+// What would refuse a reset of a desk by its three lags, if anything.
+fn reset_refusal(s: SetupNumbers, summary: &SummaryBytes, desk: usize) -> Option<Refusal>
+    requires { (s.seat_lag ≤ 127) × (s.shelf_lag ≤ 255) × (desk < seats) }
+    ensures { reset_value result ≡ foretells (reset_number (setup_with s []) (lags_in summary.now desk)) }
 {
     let at = lags_at(desk);
     if summary[at] == s.seat_lag as u8 {
-        return rules::SEAT_BEHIND;
+        return Some(Refusal::SeatBehind);
     }
     if summary[at + 1] == (2 * s.seat_lag) as u8 {
-        return rules::MAIL_BEHIND;
+        return Some(Refusal::MailBehind);
     }
     if summary[at + 2] == s.shelf_lag as u8 {
-        return rules::SHELF_BEHIND;
+        return Some(Refusal::ShelfBehind);
     }
-    rules::DONE
+    None
 }
 
-// May: the number that a reset at a desk would be answered, by a setup and a summary alone.
-pub fn may(s: SetupNumbers, limits: &[usize], summary: &[u8], desk: usize) -> Foretold
-    ensures { foretold_says result ≡ may_of (setup_with s limits.now) summary.now desk }
+// May: what would refuse a reset at a desk, if anything, by a setup and a summary alone.
+pub fn may(setup: GivenSetup<'_>, summary: &[u8], desk: usize) -> Result<Option<Refusal>, Refusal>
+    ensures { foretold_says result ≡ may_of (setup_in setup.entry) summary.now desk }
 {
-    if !setups::permits(s, limits) {
-        return Foretold::Refused(rules::BAD_SETUP);
+    if !setups::permits(setup) {
+        return Err(Refusal::BadSetup);
     }
+    let s = setup.numbers;
     if s.desks <= desk {
-        return Foretold::Refused(rules::NO_DESK);
+        return Err(Refusal::NoDesk);
     }
-    if !summary_ok(s, summary) {
-        return Foretold::Refused(rules::BAD_SUMMARY);
+    let Some(bytes) = summary.as_array::<SUMMARY_BYTES>() else {
+        return Err(Refusal::BadSummary);
+    };
+    if !summary_ok(s, bytes) {
+        return Err(Refusal::BadSummary);
     }
-    Foretold::Is(reset_number(s, summary, desk))
+    Ok(reset_refusal(s, bytes, desk))
 }

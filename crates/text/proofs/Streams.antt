@@ -2,6 +2,7 @@
 -- Assumes nothing.
 --   part_none, part_more, take_part   the bytes from one place to another
 --   flat_more                  one byte more that is no newline
+--   line_ends                  the first newline from a place on, as a search from there finds it
 --   after_join, text_join      two pieces, one after the other, are the pieces joined
 --   quiet, gathers             bytes with no newline print nothing, and are kept
 --   line_text_lem, line_after      a line and its newline
@@ -22,6 +23,8 @@ use borrow.Author.Tests.{not-true, ne_eqb}
 use lib.Dec.{eqb}
 use lib.ListN.{length, take, drop, get_or, length-take, length-drop}
 use lib.Seq.{take-add, take-suc, take-take, get_or-drop}
+use Rattle.std.specs.Prelude.{Option, None, Some, MatchOption, unwrap_or}
+use Rattle.std.specs.List.{HoldsAt, AllWithin}
 use Rattle.tools.proofs.Tests.{and_true_l, and_true_r, eq_by}
 use Rattle.text.specs.Stream.{
   Answers,
@@ -62,6 +65,38 @@ unfolding flat
 flat_more [] x f n = rw (ne_eqb x 10 n)
 flat_more (y ∷ xs) x f n =
     rw (and_true_l (not (eqb y 10)) (flat xs) f) (flat_more xs x (and_true_r (not (eqb y 10)) (flat xs) f) n)
+
+flat_below : (n : ℕ) (xs : List ℕ) → AllWithin (λ x. x ≡ 10 → ⊥) xs 0 n → n ≤ length xs → flat (take n xs) ≡ true
+unfolding flat
+flat_below zero xs h l = refl
+flat_below (suc n) [] h l = refl
+flat_below (suc n) (x ∷ xs) h l =
+    rw (ne_eqb x 10 (h 0 0 (omega arith) (omega arith)))
+    (flat_below n xs (λ k d a b. h (suc k) d (omega arith) (omega arith)) (omega arith))
+
+-- where a search from a place on finds the first newline, the line ends; where it finds none, at the end
+pub line_ends
+    : (s : List ℕ) (a : ℕ) (o : Option ℕ)
+    → a ≤ length s
+    → MatchOption o (AllWithin (λ x. x ≡ 10 → ⊥) (drop a s) 0 (length (drop a s)))
+    (λ i. (i < length (drop a s)) × HoldsAt (λ x. x ≡ 10) (drop a s) i × AllWithin (λ x. x ≡ 10 → ⊥) (drop a s) 0 i)
+    → Ends s a (a + unwrap_or o (length (drop a s)))
+line_ends s a None l h =
+    let n : a + length (drop a s) - a ≡ length (drop a s) = omega arith in
+    record {
+      from = omega arith;
+      within = omega (arith, length-drop a s);
+      plain = rw n (flat_below (length (drop a s)) (drop a s) h (omega arith));
+      newline = λ k. absurd (omega (arith, length-drop a s));
+    }
+line_ends s a (Some i) l h =
+    let n : a + i - a ≡ i = omega arith in
+    record {
+      from = omega arith;
+      within = omega (arith, h.0, length-drop a s);
+      plain = rw n (flat_below i (drop a s) h.2 (omega (arith, h.0)));
+      newline = λ _. sym (get_or-drop a s i 0) ∙ h.1 0;
+    }
 
 plain : (x : ℕ) (xs : List ℕ) → flat (x ∷ xs) ≡ true → eqb x 10 ≡ false
 unfolding flat

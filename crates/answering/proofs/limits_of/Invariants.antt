@@ -1,10 +1,6 @@
-use Prim.Native.Nat.{◌≤◌, ◌-◌}
 use Rattle.tools.specs.Lists.{byte, Filled}
 use Rattle.book.specs.Layout.{spot, tag_b_spot}
 use Rattle.answering.proofs.limits_of.Given as goal
 
 abbrev pub invariant-loop-j : goal.invariant-loop-j
-invariant-loop-j l = (l.j ≤ 8) × Filled 8 l.j (λ j. byte l.book (spot j tag_b_spot)) l.limits
-
-abbrev pub decreases-loop-j : goal.decreases-loop-j
-decreases-loop-j l = 8 - l.j
+invariant-loop-j l = Filled 8 l.j (λ j. byte l.book (spot j tag_b_spot)) l.limits

@@ -1,40 +1,28 @@
 use Rattle.rules.specs.Setups.{setup_with}
 use Rattle.book.specs.Layout.{limits_of}
-use Rattle.book.proofs.Soundness.{sound_size}
-use Rattle.refusals.proofs.Slots.{Two, slots_two}
+use Rattle.refusals.proofs.Slots.{slots_two}
 use Rattle.asking.proofs.Slots.{reach_bytes}
 use Rattle.asking.proofs.Accepted.{before_answered}
-use borrow.Author.Rules.{rules}
 use Rattle.asking.proofs.told.Goals as goal
 
-pub numbers_of-setup-requires : goal.numbers_of-setup-requires
-numbers_of-setup-requires c =
-    let used : Two c.args.book.now c.args.first c.args.second = slots_two _ _ _ c.requires in
-    sound_size _ used.whole
-
 pub owner_of-owner-requires : goal.owner_of-owner-requires
-owner_of-owner-requires c =
-    let used : Two c.args.book.now c.args.first c.args.second = slots_two _ _ _ c.requires in
-    let u = used in record { book_len = sound_size _ u.whole; slot_value = u.first }
+owner_of-owner-requires c = (slots_two _ _ _ c.requires).first
 
 pub owner_of-other-requires : goal.owner_of-other-requires
-owner_of-other-requires c =
-    let used : Two c.args.book.now c.args.first c.args.second = slots_two _ _ _ c.requires in
-    let u = used in record { book_len = sound_size _ u.whole; slot_value = u.second }
+owner_of-other-requires c = (slots_two _ _ _ c.requires).second
 
 pub way_of-requires : goal.way_of-requires
 way_of-requires c =
-    let used : Two c.args.book.now c.args.first c.args.second = slots_two _ _ _ c.requires in
-    let u = used in let z = sound_size _ u.whole in search rules
+    let u = slots_two _ _ _ c.requires in record { whole = u.whole; first = u.first; second = u.second }
 
 pub told-requires : goal.told-requires
-told-requires c =
-    let used : Two c.args.book.now c.args.first c.args.second = slots_two _ _ _ c.requires in
-    reach_bytes _ (setup_with _ _) c.numbers_of-setup.ensures used.whole
+told-requires c = reach_bytes _ (setup_with _ _) c.numbers_of-setup.ensures (slots_two _ _ _ c.requires).whole
 
 pub returns : goal.returns
 returns c =
-    let used : Two c.args.book.now c.args.first c.args.second = slots_two _ _ _ c.requires in
-    let w = c.way_of in let k = c.owner_of-other in let j = c.owner_of-owner in let s = c.numbers_of-setup in let l = limits_of c.args.book.now in
-    before_answered _ _ _ used (setup_with s.result l) s.ensures j.result k.result j.ensures k.ensures w.result
-    w.ensures c.told.result (c.told.ensures l)
+    let s = c.numbers_of-setup in
+    let j = c.owner_of-owner in
+    let k = c.owner_of-other in
+    let l = limits_of c.args.book.now in
+    before_answered _ _ _ (slots_two _ _ _ c.requires) (setup_with s.result l) s.ensures j.result k.result j.ensures k.ensures
+    c.way_of.result c.way_of.ensures c.told.result (c.told.ensures l)

@@ -1,13 +1,8 @@
-use mathlib.Core.Path.{sym}
 use native.Mathlib.Omega.{arith}
 use lib.ListN.{length}
 use borrow.Author.Tests.{le-leb}
 use Rattle.commands.specs.Lines.{verbs, parse_of}
-use Rattle.commands.proofs.Shapes.{long_bad}
 use Rattle.commands.proofs.parse.Goals as goal
-
-pub returns-then-line-gt-LINE_MOST : goal.returns-then-line-gt-LINE_MOST
-returns-then-line-gt-LINE_MOST c = sym (long_bad _ (omega arith))
 
 pub returns : goal.returns
 unfolding parse_of verbs

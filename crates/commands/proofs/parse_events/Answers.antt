@@ -1,97 +1,94 @@
-use native.Mathlib.Omega.{arith}
-use Prim.Native.Nat.{ℕ}
-use mathlib.Core.Path.{refl, sym, ◌∙◌}
-use mathlib.Core.List.{List, ◌++◌}
-use Rattle.tools.specs.Lists.{tab}
+use Rattle.commands.specs.Lines.{events, filings, questions, lists, wanted_in}
+use Rattle.commands.specs.declared.Command.TheVariants as Commands
+use Rattle.commands.proofs.Shapes.{Past, chosen, passed, wished_call}
 use Rattle.rules.specs.Model.{local, send, receive, reset}
-use Rattle.commands.specs.Lines.{events, filings, questions, lists}
-use Rattle.commands.proofs.Shapes.{Past, fits, chosen, passed, wished_call}
+use Rattle.tools.specs.Lists.{byte}
+use Rattle.std.proofs.Common.{◌≡◌, None, Some, List, ◌++◌, ℕ, ap, refl, sym, ◌∙◌, rules}
 use Rattle.commands.proofs.parse_events.Goals as goal
 
-pub number-keep-requires : goal.number-keep-requires
-number-keep-requires c =
-    (omega arith, fits _ _ _ _ c.is_line.ensures c.if-is_line.true (omega arith))
+pub returns-in_err-wished : goal.returns-in_err-wished
+returns-in_err-wished c =
+    let ns = c.in-Some.numbers in
+    let e : c.from_residual.result ≡ None = search rules in
+    ap wanted_in e ∙ wished_call (byte ns 1) None
+    (Commands.Local (byte ns 0)) (local (byte ns 0)) (λ q. refl) c.in_err-wished.ensures
+    ∙ chosen _ _ _ _ refl ns c.in-Some.ensures
 
-pub number-requires : goal.number-requires
-number-requires c =
-    (omega arith, fits _ _ _ _ c.is_line.ensures c.if-is_line.true (omega arith))
+pub returns-in-Some : goal.returns-in-Some
+returns-in-Some c =
+    let ns = c.in-Some.numbers in
+    wished_call (byte ns 1) (Some c.in_ok-wished.field-0)
+    (Commands.Local (byte ns 0)) (local (byte ns 0)) (λ q. refl) c.in_ok-wished.ensures
+    ∙ chosen _ _ _ _ refl ns c.in-Some.ensures
 
-pub returns-then-is_line : goal.returns-then-is_line
-unfolding tab
-returns-then-is_line c =
-    wished_call _ c.number-keep.result (local c.number.result) _ _ c.wished.ensures refl
-    ∙ rw (c.number-keep.ensures, c.number.ensures)
-    (sym (chosen _ _ _ _ c.is_line.ensures refl c.if-is_line.true))
-
-pub number-keep-requires-then-is_line-2 : goal.number-keep-requires-then-is_line-2
-number-keep-requires-then-is_line-2 c =
-    (omega arith, fits _ _ _ _ c.is_line-else-is_line.ensures c.if-is_line-2.true (omega arith))
-
-pub number-requires-then-is_line-2 : goal.number-requires-then-is_line-2
-number-requires-then-is_line-2 c =
-    (omega arith, fits _ _ _ _ c.is_line-else-is_line.ensures c.if-is_line-2.true (omega arith))
-
-pub number-requires-then-is_line-2-2 : goal.number-requires-then-is_line-2-2
-number-requires-then-is_line-2-2 c =
-    (omega arith, fits _ _ _ _ c.is_line-else-is_line.ensures c.if-is_line-2.true (omega arith))
-
-pub returns-then-is_line-2 : goal.returns-then-is_line-2
-unfolding tab
-returns-then-is_line-2 c =
+pub returns-in_err-wished-2 : goal.returns-in_err-wished-2
+returns-in_err-wished-2 c =
+    let ns = c.in-Some-numbers.numbers in
     let line : List ℕ = c.args.line.now in
-    let past_1 : Past (events ++ filings ++ questions ++ lists) 1 line = passed _ _ _ _ c.is_line.ensures refl c.if-is_line.false in
-    wished_call _ c.number-keep-then-is_line-2.result (send c.number-then-is_line-2.result c.number-then-is_line-2-2.result)
-    _ _ c.wished-then-is_line-2.ensures refl
-    ∙ rw (c.number-keep-then-is_line-2.ensures, c.number-then-is_line-2.ensures, c.number-then-is_line-2-2.ensures)
-    (sym (past_1 ∙ chosen _ _ _ _ c.is_line-else-is_line.ensures refl c.if-is_line-2.true))
+    let past_1 : Past (events ++ filings ++ questions ++ lists) 1 line = passed _ _ _ _ refl c.in_default.ensures in
+    let e : c.from_residual-in_err-wished-2.result ≡ None = search rules in
+    ap wanted_in e ∙ wished_call (byte ns 2) None
+    (Commands.Send (byte ns 0) (byte ns 1)) (send (byte ns 0) (byte ns 1)) (λ q. refl) c.in_err-wished-2.ensures
+    ∙ chosen _ _ _ _ refl ns c.in-Some-numbers.ensures ∙ sym past_1
 
-pub number-keep-requires-then-is_line-3 : goal.number-keep-requires-then-is_line-3
-number-keep-requires-then-is_line-3 c =
-    (omega arith, fits _ _ _ _ c.is_line-else-is_line-2.ensures c.if-is_line-3.true (omega arith))
-
-pub number-requires-then-is_line-3 : goal.number-requires-then-is_line-3
-number-requires-then-is_line-3 c =
-    (omega arith, fits _ _ _ _ c.is_line-else-is_line-2.ensures c.if-is_line-3.true (omega arith))
-
-pub number-requires-then-is_line-3-2 : goal.number-requires-then-is_line-3-2
-number-requires-then-is_line-3-2 c =
-    (omega arith, fits _ _ _ _ c.is_line-else-is_line-2.ensures c.if-is_line-3.true (omega arith))
-
-pub returns-then-is_line-3 : goal.returns-then-is_line-3
-unfolding tab
-returns-then-is_line-3 c =
+pub returns-in-Some-numbers : goal.returns-in-Some-numbers
+returns-in-Some-numbers c =
+    let ns = c.in-Some-numbers.numbers in
     let line : List ℕ = c.args.line.now in
-    let past_1 : Past (events ++ filings ++ questions ++ lists) 1 line = passed _ _ _ _ c.is_line.ensures refl c.if-is_line.false in
-    let past_2 : Past (events ++ filings ++ questions ++ lists) 2 line = past_1 ∙ passed _ _ _ _ c.is_line-else-is_line.ensures refl c.if-is_line-2.false in
-    wished_call _ c.number-keep-then-is_line-3.result (receive c.number-then-is_line-3.result c.number-then-is_line-3-2.result)
-    _ _ c.wished-then-is_line-3.ensures refl
-    ∙ rw (c.number-keep-then-is_line-3.ensures, c.number-then-is_line-3.ensures, c.number-then-is_line-3-2.ensures)
-    (sym (past_2 ∙ chosen _ _ _ _ c.is_line-else-is_line-2.ensures refl c.if-is_line-3.true))
+    let past_1 : Past (events ++ filings ++ questions ++ lists) 1 line = passed _ _ _ _ refl c.in_default.ensures in
+    wished_call (byte ns 2) (Some c.in_ok-wished-2.field-0)
+    (Commands.Send (byte ns 0) (byte ns 1)) (send (byte ns 0) (byte ns 1)) (λ q. refl) c.in_ok-wished-2.ensures
+    ∙ chosen _ _ _ _ refl ns c.in-Some-numbers.ensures ∙ sym past_1
 
-pub number-keep-requires-then-is_line-4 : goal.number-keep-requires-then-is_line-4
-number-keep-requires-then-is_line-4 c =
-    (omega arith, fits _ _ _ _ c.is_line-else-is_line-3.ensures c.if-is_line-4.true (omega arith))
-
-pub number-requires-then-is_line-4 : goal.number-requires-then-is_line-4
-number-requires-then-is_line-4 c =
-    (omega arith, fits _ _ _ _ c.is_line-else-is_line-3.ensures c.if-is_line-4.true (omega arith))
-
-pub returns-then-is_line-4 : goal.returns-then-is_line-4
-unfolding tab
-returns-then-is_line-4 c =
+pub returns-in_err-wished-3 : goal.returns-in_err-wished-3
+returns-in_err-wished-3 c =
+    let ns = c.in-Some-numbers-2.numbers in
     let line : List ℕ = c.args.line.now in
-    let past_1 : Past (events ++ filings ++ questions ++ lists) 1 line = passed _ _ _ _ c.is_line.ensures refl c.if-is_line.false in
-    let past_2 : Past (events ++ filings ++ questions ++ lists) 2 line = past_1 ∙ passed _ _ _ _ c.is_line-else-is_line.ensures refl c.if-is_line-2.false in
-    let past_3 : Past (events ++ filings ++ questions ++ lists) 3 line = past_2 ∙ passed _ _ _ _ c.is_line-else-is_line-2.ensures refl c.if-is_line-3.false in
-    wished_call _ c.number-keep-then-is_line-4.result (reset c.number-then-is_line-4.result) _ _ c.wished-then-is_line-4.ensures refl
-    ∙ rw (c.number-keep-then-is_line-4.ensures, c.number-then-is_line-4.ensures)
-    (sym (past_3 ∙ chosen _ _ _ _ c.is_line-else-is_line-3.ensures refl c.if-is_line-4.true))
+    let past_1 : Past (events ++ filings ++ questions ++ lists) 1 line = passed _ _ _ _ refl c.in_default.ensures in
+    let past_2 : Past (events ++ filings ++ questions ++ lists) 2 line = past_1 ∙ passed _ _ _ _ refl c.in_default-numbers.ensures in
+    let e : c.from_residual-in_err-wished-3.result ≡ None = search rules in
+    ap wanted_in e ∙ wished_call (byte ns 2) None
+    (Commands.Receive (byte ns 0) (byte ns 1)) (receive (byte ns 0) (byte ns 1)) (λ q. refl) c.in_err-wished-3.ensures
+    ∙ chosen _ _ _ _ refl ns c.in-Some-numbers-2.ensures ∙ sym past_2
 
-pub returns-else-is_line-4 : goal.returns-else-is_line-4
-returns-else-is_line-4 c =
+pub returns-in-Some-numbers-2 : goal.returns-in-Some-numbers-2
+returns-in-Some-numbers-2 c =
+    let ns = c.in-Some-numbers-2.numbers in
     let line : List ℕ = c.args.line.now in
-    let past_1 : Past (events ++ filings ++ questions ++ lists) 1 line = passed _ _ _ _ c.is_line.ensures refl c.if-is_line.false in
-    let past_2 : Past (events ++ filings ++ questions ++ lists) 2 line = past_1 ∙ passed _ _ _ _ c.is_line-else-is_line.ensures refl c.if-is_line-2.false in
-    let past_3 : Past (events ++ filings ++ questions ++ lists) 3 line = past_2 ∙ passed _ _ _ _ c.is_line-else-is_line-2.ensures refl c.if-is_line-3.false in
-    let past_4 : Past (events ++ filings ++ questions ++ lists) 4 line = past_3 ∙ passed _ _ _ _ c.is_line-else-is_line-3.ensures refl c.if-is_line-4.false in
+    let past_1 : Past (events ++ filings ++ questions ++ lists) 1 line = passed _ _ _ _ refl c.in_default.ensures in
+    let past_2 : Past (events ++ filings ++ questions ++ lists) 2 line = past_1 ∙ passed _ _ _ _ refl c.in_default-numbers.ensures in
+    wished_call (byte ns 2) (Some c.in_ok-wished-3.field-0)
+    (Commands.Receive (byte ns 0) (byte ns 1)) (receive (byte ns 0) (byte ns 1)) (λ q. refl) c.in_ok-wished-3.ensures
+    ∙ chosen _ _ _ _ refl ns c.in-Some-numbers-2.ensures ∙ sym past_2
+
+pub returns-in_err-wished-4 : goal.returns-in_err-wished-4
+returns-in_err-wished-4 c =
+    let ns = c.in-Some-numbers-3.numbers in
+    let line : List ℕ = c.args.line.now in
+    let past_1 : Past (events ++ filings ++ questions ++ lists) 1 line = passed _ _ _ _ refl c.in_default.ensures in
+    let past_2 : Past (events ++ filings ++ questions ++ lists) 2 line = past_1 ∙ passed _ _ _ _ refl c.in_default-numbers.ensures in
+    let past_3 : Past (events ++ filings ++ questions ++ lists) 3 line = past_2 ∙ passed _ _ _ _ refl c.in_default-numbers-2.ensures in
+    let e : c.from_residual-in_err-wished-4.result ≡ None = search rules in
+    ap wanted_in e ∙ wished_call (byte ns 1) None
+    (Commands.Reset (byte ns 0)) (reset (byte ns 0)) (λ q. refl) c.in_err-wished-4.ensures
+    ∙ chosen _ _ _ _ refl ns c.in-Some-numbers-3.ensures ∙ sym past_3
+
+pub returns-in-Some-numbers-3 : goal.returns-in-Some-numbers-3
+returns-in-Some-numbers-3 c =
+    let ns = c.in-Some-numbers-3.numbers in
+    let line : List ℕ = c.args.line.now in
+    let past_1 : Past (events ++ filings ++ questions ++ lists) 1 line = passed _ _ _ _ refl c.in_default.ensures in
+    let past_2 : Past (events ++ filings ++ questions ++ lists) 2 line = past_1 ∙ passed _ _ _ _ refl c.in_default-numbers.ensures in
+    let past_3 : Past (events ++ filings ++ questions ++ lists) 3 line = past_2 ∙ passed _ _ _ _ refl c.in_default-numbers-2.ensures in
+    wished_call (byte ns 1) (Some c.in_ok-wished-4.field-0)
+    (Commands.Reset (byte ns 0)) (reset (byte ns 0)) (λ q. refl) c.in_ok-wished-4.ensures
+    ∙ chosen _ _ _ _ refl ns c.in-Some-numbers-3.ensures ∙ sym past_3
+
+pub returns : goal.returns
+returns c =
+    let line : List ℕ = c.args.line.now in
+    let past_1 : Past (events ++ filings ++ questions ++ lists) 1 line = passed _ _ _ _ refl c.in_default.ensures in
+    let past_2 : Past (events ++ filings ++ questions ++ lists) 2 line = past_1 ∙ passed _ _ _ _ refl c.in_default-numbers.ensures in
+    let past_3 : Past (events ++ filings ++ questions ++ lists) 3 line = past_2 ∙ passed _ _ _ _ refl c.in_default-numbers-2.ensures in
+    let past_4 : Past (events ++ filings ++ questions ++ lists) 4 line = past_3 ∙ passed _ _ _ _ refl c.in_default-numbers-3.ensures in
     c.parse_filings.ensures ∙ sym past_4

@@ -1,49 +1,27 @@
-use Prim.Native.Nat.{ℕ}
-use mathlib.Core.Path.{◌≡◌, sym, ◌∙◌}
-use mathlib.Core.Bool.{Bool, false, ◌&&◌}
-use mathlib.Core.List.{List, []}
-use lib.Dec.{leb}
-use borrow.Author.Tests.{leb-true}
-use Rattle.tools.proofs.Tests.{and_true_l, and_true_r}
-use Rattle.text.specs.Words.{ascii}
-use Rattle.commands.specs.Lines.{lists, choose, count_after, shaped}
-use Rattle.commands.proofs.Shapes.{sized, Past, chosen_any, passed_any}
+use Rattle.commands.specs.Lines.{lists, start_of, wanted_in}
+use Rattle.commands.proofs.Shapes.{Past, chosen_any, passed_any, no_picture, nothing_left}
+use Rattle.tools.specs.Tests.{pick}
+use Rattle.std.proofs.Common.{◌≡◌, None, leb, length, [], ap, sym, ◌∙◌, rules}
+use mathlib.Core.Option.{none}
 use Rattle.commands.proofs.parse_lists.Goals as goal
 
--- the test of a start
-is_start
-    : (n : ℕ) (l : List ℕ) (r : Bool)
-    → r ≡ shaped l (ascii "start") n
-    → (leb 6 n && r) ≡ (leb 6 n && shaped l (ascii "start") n)
-is_start n l r e = rw e
+pub returns-in-Some : goal.returns-in-Some
+returns-in-Some c =
+    let line = c.args.line.now in
+    let ns = c.in-Some.numbers.items in
+    let e : wanted_in c.start_of.result ≡ pick (leb 6 (length ns)) (start_of ns) none = search rules in
+    let none_else = no_picture line _ c.in-Some.ensures.0 in
+    e ∙ sym (chosen_any _ _ line ns c.in-Some.ensures ∙ ap (pick (leb 6 (length ns)) (start_of ns)) none_else)
 
-past
-    : (n : ℕ) (l : List ℕ) (r : Bool)
-    → n ≡ count_after l (ascii "start")
-    → r ≡ shaped l (ascii "start") n
-    → (leb 6 n && r) ≡ false
-    → Past lists 1 l
-past n l r k e h = passed_any _ _ l n k (is_start n l r e) h
-
-pub start_of-requires : goal.start_of-requires
-start_of-requires c =
-    let t = sym (is_start _ _ _ c.is_line.ensures) ∙ c.if-count-is_line.true in
-    (leb-true _ _ (and_true_l _ _ t), sized _ _ _ (and_true_r (leb 6 c.count_after-count.result) _ t))
-
-pub returns-then-count-is_line : goal.returns-then-count-is_line
-returns-then-count-is_line c =
-    c.start_of.ensures
-    ∙ sym (chosen_any _ _ _ _ c.count_after-count.ensures (is_start _ _ _ c.is_line.ensures) c.if-count-is_line.true)
-
-pub returns-then-is_line : goal.returns-then-is_line
-returns-then-is_line c =
-    sym
-    (past _ _ _ c.count_after-count.ensures c.is_line.ensures c.if-count-is_line.false
-    ∙ chosen_any _ _ _ _ c.count_after-slots.ensures c.is_line-2.ensures c.if-is_line.true)
+pub returns-in_err-all_numbers : goal.returns-in_err-all_numbers
+returns-in_err-all_numbers c =
+    let line = c.args.line.now in
+    let past_1 : Past lists 1 line = passed_any _ _ line c.in_default.ensures in
+    let e : c.from_residual.result ≡ None = search rules in
+    ap wanted_in e ∙ sym (past_1 ∙ nothing_left line c.in_err-all_numbers.ensures)
 
 pub returns : goal.returns
-unfolding choose
 returns c =
-    sym
-    (past _ _ _ c.count_after-count.ensures c.is_line.ensures c.if-count-is_line.false
-    ∙ passed_any _ [] _ _ c.count_after-slots.ensures c.is_line-2.ensures c.if-is_line.false)
+    let line = c.args.line.now in
+    let past_1 : Past lists 1 line = passed_any _ _ line c.in_default.ensures in
+    sym (past_1 ∙ chosen_any _ [] line _ c.in_ok-all_numbers.ensures)

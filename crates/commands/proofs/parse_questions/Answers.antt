@@ -1,59 +1,30 @@
-use native.Mathlib.Omega.{arith}
-use Prim.Native.Nat.{ℕ}
+use Rattle.commands.specs.Lines.{questions, lists}
+use Rattle.commands.proofs.Shapes.{Past, chosen, passed}
 use mathlib.Core.Path.{refl, sym, ◌∙◌}
 use mathlib.Core.List.{List, ◌++◌}
-use Rattle.tools.specs.Lists.{tab}
-use Rattle.commands.specs.Lines.{questions, lists}
-use Rattle.commands.proofs.Shapes.{Past, fits, chosen, passed, may_asked}
+use Prim.Native.Nat.{ℕ}
 use Rattle.commands.proofs.parse_questions.Goals as goal
 
-pub number-requires : goal.number-requires
-number-requires c =
-    (omega arith, fits _ _ _ _ c.is_line.ensures c.if-is_line.true (omega arith))
+pub returns-in-Some : goal.returns-in-Some
+returns-in-Some c = chosen _ _ _ _ refl _ c.in-Some.ensures
 
-pub number-requires-then-is_line : goal.number-requires-then-is_line
-number-requires-then-is_line c =
-    (omega arith, fits _ _ _ _ c.is_line.ensures c.if-is_line.true (omega arith))
-
-pub returns-then-is_line : goal.returns-then-is_line
-unfolding tab
-returns-then-is_line c =
-    rw (c.number.ensures, c.number-then-is_line.ensures)
-    (sym (chosen _ _ _ _ c.is_line.ensures refl c.if-is_line.true))
-
-pub number-requires-then-is_line-2 : goal.number-requires-then-is_line-2
-number-requires-then-is_line-2 c =
-    (omega arith, fits _ _ _ _ c.is_line-2.ensures c.if-is_line-2.true (omega arith))
-
-pub number-requires-then-is_line-2-2 : goal.number-requires-then-is_line-2-2
-number-requires-then-is_line-2-2 c =
-    (omega arith, fits _ _ _ _ c.is_line-2.ensures c.if-is_line-2.true (omega arith))
-
-pub returns-then-is_line-2 : goal.returns-then-is_line-2
-unfolding tab
-returns-then-is_line-2 c =
+pub returns-in-Some-numbers : goal.returns-in-Some-numbers
+returns-in-Some-numbers c =
     let line : List ℕ = c.args.line.now in
-    let past_1 : Past (questions ++ lists) 1 line = passed _ _ _ _ c.is_line.ensures refl c.if-is_line.false in
-    rw (c.number-then-is_line-2.ensures, c.number-then-is_line-2-2.ensures)
-    (sym (past_1 ∙ chosen _ _ _ _ c.is_line-2.ensures refl c.if-is_line-2.true))
+    let past_1 : Past (questions ++ lists) 1 line = passed _ _ _ _ refl c.in_default.ensures in
+    chosen _ _ _ _ refl _ c.in-Some-numbers.ensures ∙ sym past_1
 
-pub number-requires-then-is_line-3 : goal.number-requires-then-is_line-3
-number-requires-then-is_line-3 c =
-    (omega arith, fits _ _ _ _ c.is_line-3.ensures c.if-is_line-3.true (omega arith))
-
-pub returns-then-is_line-3 : goal.returns-then-is_line-3
-unfolding tab
-returns-then-is_line-3 c =
+pub returns-in-Some-numbers-2 : goal.returns-in-Some-numbers-2
+returns-in-Some-numbers-2 c =
     let line : List ℕ = c.args.line.now in
-    let past_1 : Past (questions ++ lists) 1 line = passed _ _ _ _ c.is_line.ensures refl c.if-is_line.false in
-    let past_2 : Past (questions ++ lists) 2 line = past_1 ∙ passed _ _ _ _ c.is_line-2.ensures refl c.if-is_line-2.false in
-    may_asked line _ _ _ c.number-then-is_line-3.ensures
-    (past_2 ∙ chosen _ _ _ _ c.is_line-3.ensures refl c.if-is_line-3.true)
+    let past_1 : Past (questions ++ lists) 1 line = passed _ _ _ _ refl c.in_default.ensures in
+    let past_2 : Past (questions ++ lists) 2 line = past_1 ∙ passed _ _ _ _ refl c.in_default-numbers.ensures in
+    chosen _ _ _ _ refl _ c.in-Some-numbers-2.ensures ∙ sym past_2
 
 pub returns : goal.returns
 returns c =
     let line : List ℕ = c.args.line.now in
-    let past_1 : Past (questions ++ lists) 1 line = passed _ _ _ _ c.is_line.ensures refl c.if-is_line.false in
-    let past_2 : Past (questions ++ lists) 2 line = past_1 ∙ passed _ _ _ _ c.is_line-2.ensures refl c.if-is_line-2.false in
-    let past_3 : Past (questions ++ lists) 3 line = past_2 ∙ passed _ _ _ _ c.is_line-3.ensures refl c.if-is_line-3.false in
+    let past_1 : Past (questions ++ lists) 1 line = passed _ _ _ _ refl c.in_default.ensures in
+    let past_2 : Past (questions ++ lists) 2 line = past_1 ∙ passed _ _ _ _ refl c.in_default-numbers.ensures in
+    let past_3 : Past (questions ++ lists) 3 line = past_2 ∙ passed _ _ _ _ refl c.in_default-numbers-2.ensures in
     c.parse_lists.ensures ∙ sym past_3

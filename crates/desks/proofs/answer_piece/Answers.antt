@@ -1,37 +1,48 @@
--- `desks::answer_piece` meets its contract. Assumes nothing.
-use Rattle.std.proofs.Common.{arith, ℕ, ◌-◌, ◌+◌, List, length, take, drop, length-drop, sym, ◌∙◌}
+use Rattle.std.proofs.Common.{◌≡◌, ℕ, ◌+◌, ◌-◌, sym, ◌∙◌, arith, Err, List, length, take, drop, length-drop, rules}
 use Rattle.std.proofs.lemmas.List.{take_all}
-use Rattle.text.specs.declared.Pending.{Pending}
-use Rattle.text.specs.Stream.{State, held}
-use Rattle.text.proofs.Writing.{wrote_length}
-use Rattle.office.specs.Office.{Folder}
-use Rattle.listing.specs.Feeding.{Feeds}
-use Rattle.listing.proofs.Listings.{feeds_none, feeds_on}
+use Rattle.text.specs.Stream.{text_of}
+use Rattle.listing.proofs.Listings.{feeds_none, feeds_on, text_on}
+use Rattle.ends.proofs.Reasons.{holds_none, joins, whole, all, behind}
 use Rattle.desks.proofs.answer_piece.Goals as goal
 
 -- the rest of a piece is what lies behind the bytes that are taken in
-taken
-    : (s : State Folder) (xs : List ℕ) (n : ℕ) (b : Folder) (p : Pending)
-    → Feeds s xs n b p
-    → (m : ℕ) (b' : Folder) (p' : Pending)
-    → Feeds (held b p) (take (length xs - n) (drop n xs)) m b' p'
-    → Feeds s xs (n + m) b' p'
-taken s xs n b p f m b' p' g =
-    feeds_on s xs n b p f m b' p' (rw (take_all (length xs - n) (drop n xs) (simp length-drop (omega arith))) at g)
+rest : (n : ℕ) (xs : List ℕ) → take (length xs - n) (drop n xs) ≡ drop n xs
+rest n xs = take_all (length xs - n) (drop n xs) (simp length-drop (omega arith))
 
 pub loop-at-init : goal.loop-at-init
-loop-at-init g c = record { room = c.buffer-out.ensures; feeds = feeds_none _ _ _ c.requires }
+unfolding text_of
+loop-at-init g c = record { feeds = feeds_none _ _ _ c.requires; wrote = holds_none _ }
 
 pub loop-at-preserved : goal.loop-at-preserved
 loop-at-preserved g c =
+    let h = c.loop-at in
+    let v = h.invariant in
+    let xs = c.args.piece.now in
+    let f = rw (rest h.at xs) at c.feed-at.ensures.feeds in
+    let w = rw (c.as_slice.ensures.value, c.feed-at.ensures.wrote, rest h.at xs) at c.write_out.ensures in
     record {
-      room = c.loop-at.invariant.room ∙ sym (wrote_length c.feed-fed.ensures.wrote);
-      feeds = taken _ _ _ _ _ c.loop-at.invariant.feeds _ _ _ c.feed-fed.ensures.feeds;
+      feeds = feeds_on _ xs h.at _ _ v.feeds _ _ _ f;
+      wrote =
+          rw (text_on _ xs h.at _ _ v.feeds c.feed-at.result)
+          (joins _ _ _ _ _ v.wrote (whole _ _ _ _ c.in_ok-write_out.was w));
     }
 
-pub returns-in_default : goal.returns-in_default
-returns-in_default g c =
-    record {
-      feeds = taken _ _ _ _ _ c.loop-at.invariant.feeds _ _ _ c.feed-fed.ensures.feeds;
-      told = (c.write_out-put.ensures, λ e. absurd (c.in_default.not-On e));
-    }
+pub returns-in_err-write_out : goal.returns-in_err-write_out
+returns-in_err-write_out g c =
+    let h = c.loop-at in
+    let v = h.invariant in
+    let xs = c.args.piece.now in
+    let f = rw (rest h.at xs) at c.feed-at.ensures.feeds in
+    let told : c.from_residual.result ≡ Err c.in_err-write_out.field-0.0 = search rules in
+    let same : c.from_residual.result ≡ c.write_out.result = told ∙ sym c.in_err-write_out.was in
+    let w = rw (c.as_slice.ensures.value, c.feed-at.ensures.wrote, rest h.at xs, ← same) at c.write_out.ensures in (
+      h.at + c.feed-at.result,
+      feeds_on _ xs h.at _ _ v.feeds _ _ _ f,
+      rw (text_on _ xs h.at _ _ v.feeds c.feed-at.result) (behind _ _ _ _ _ _ v.wrote w),
+      λ e. absurd (cc (told, e)),
+    )
+
+pub returns : goal.returns
+returns g c =
+    let h = c.loop-at in
+    (h.at, h.invariant.feeds, all _ _ _ h.invariant.wrote, λ _. omega (arith, h.invariant.feeds.within))

@@ -1,21 +1,19 @@
--- `desks::take_turn` meets its contract. Assumes nothing.
-use Rattle.std.proofs.Common.{◌≡◌, subst}
-use mir.Syntax.{w32, w64}
-use mir.ValLaws.{to_z-of_z}
+use Rattle.std.proofs.Common.{◌≡◌, sym, ◌∙◌, Ok, Err, rules, refl}
+use lib.Seq.{length-take-le}
 use Rattle.listing.proofs.Listings.{feeds_none}
-use Rattle.ends.specs.declared.Went.{Went}
-use Rattle.ends.specs.declared.Went.TheVariants.{On}
-use Rattle.ends.specs.Ends.{read_went, Goes}
-use Rattle.ends.proofs.Reasons.{stands}
+use Rattle.ends.specs.Ends.{read_went}
+use Rattle.ends.proofs.Reasons.{read, prints, stands}
 use Rattle.desks.proofs.take_turn.Goals as goal
 
-pub returns-in_default : goal.returns-in_default
-returns-in_default g c =
-    let w = c.read_went-read.result in
-    let read : w ≡ read_went c.args.got c.args.error =
-    rw (to_z-of_z w64 _ c.ranges.got, to_z-of_z w32 _ c.ranges.error) at c.read_went-read.ensures in
-    record {
-      feeds = feeds_none _ _ _ c.requires;
-      goes = subst (λ (v : Went). Goes On v w 0) read (stands On w c.in_default.not-On);
-      used_value = λ e. absurd (c.in_default.not-On e);
-    }
+pub returns-in_err-n : goal.returns-in_err-n
+returns-in_err-n g c =
+    let went : read_went c.args.done ≡ Err c.in_err-n.field-0.0 = sym c.read_went.ensures ∙ c.in_err-n.was in
+    let told : c.from_residual.result ≡ Err c.in_err-n.field-0.0 = search rules in
+    rw went (0, feeds_none _ _ _ c.requires.0, rw told (stands _ _ _ _ (λ e. absurd (cc e))), λ _. refl)
+
+pub returns : goal.returns
+returns g c =
+    let (used, feeds, writes, whole) = c.answer_piece.ensures in
+    let went : read_went c.args.done ≡ Ok c.in_ok-n.n = sym c.read_went.ensures ∙ c.in_ok-n.was in
+    let fits = read _ _ _ c.requires.1 went in
+    rw went (used, feeds, prints _ _ _ _ _ _ refl writes, λ e. whole e ∙ length-take-le _ _ fits)

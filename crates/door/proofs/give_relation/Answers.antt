@@ -1,8 +1,8 @@
-use Rattle.door.proofs.Given.{gave}
+use Rattle.std.proofs.Common.{refl, rules}
+use Rattle.rules.specs.Model.{relates}
+use Rattle.door.specs.Door.{byte_in}
+use Rattle.door.proofs.Given.{relation_told}
 use Rattle.door.proofs.give_relation.Goals as goal
 
-pub returns-in-Is : goal.returns-in-Is
-returns-in-Is c = search gave
-
-pub returns-in-Refused : goal.returns-in-Refused
-returns-in-Refused c = search gave
+pub returns : goal.returns
+returns c = c.give.ensures relates byte_in refl (λ x n h. relation_told x n (search rules))

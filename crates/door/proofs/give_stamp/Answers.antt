@@ -1,8 +1,9 @@
-use Rattle.door.proofs.Given.{gave}
+use Rattle.rules.specs.Replies.{stamped_value}
+use Rattle.door.proofs.Given.{gets_refusal, gets_value, gave}
 use Rattle.door.proofs.give_stamp.Goals as goal
 
-pub returns-then-stamped-ne-DONE : goal.returns-then-stamped-ne-DONE
-returns-then-stamped-ne-DONE c = search gave
+pub returns-in-Ok : goal.returns-in-Ok
+returns-in-Ok c = gets_value stamped_value _ c.in-Ok.event c.in-Ok.is _ (search gave)
 
-pub returns : goal.returns
-returns c = search gave
+pub returns-in-Err : goal.returns-in-Err
+returns-in-Err c = rw c.number.ensures (gets_refusal stamped_value _ c.in-Err.refusal c.in-Err.is _ (search gave))

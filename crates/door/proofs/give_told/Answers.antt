@@ -1,11 +1,8 @@
-use Rattle.door.proofs.Given.{gave}
+use Rattle.std.proofs.Common.{refl, rules}
+use Rattle.rules.specs.Model.{says}
+use Rattle.door.specs.Door.{byte_in}
+use Rattle.door.proofs.Given.{told_byte}
 use Rattle.door.proofs.give_told.Goals as goal
 
-pub returns-in-Yes : goal.returns-in-Yes
-returns-in-Yes c = search gave
-
-pub returns-in-No : goal.returns-in-No
-returns-in-No c = search gave
-
-pub returns-in-Refused : goal.returns-in-Refused
-returns-in-Refused c = search gave
+pub returns : goal.returns
+returns c = c.give.ensures says byte_in refl (λ x n h. told_byte x n (search rules))

@@ -1,9 +1,7 @@
 use native.Mathlib.Omega.{arith}
 use mathlib.Core.List.{[]}
-use Rattle.tools.specs.Lists.{tab}
 use Rattle.rules.specs.Setups.{setup_with}
 use Rattle.rules.proofs.Setups.{ranged}
-use Rattle.book.specs.Layout.{head_byte}
 use Rattle.fresh.proofs.head_of.Goals as goal
 
 pub overflow_cast-result : goal.overflow_cast-result
@@ -23,7 +21,3 @@ overflow_cast-result-4 c = let r = ranged (setup_with c.args.s []) c.requires in
 
 pub overflow_cast-result-5 : goal.overflow_cast-result-5
 overflow_cast-result-5 c = let r = ranged (setup_with c.args.s []) c.requires in omega arith
-
-pub returns : goal.returns
-unfolding tab head_byte
-returns c = rw c.phases_byte.ensures

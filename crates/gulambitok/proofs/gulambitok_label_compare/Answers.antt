@@ -1,13 +1,14 @@
 use Rattle.book.specs.Answers.{compare_of}
+use Rattle.rules.specs.Setups.{setup_with}
 use Rattle.door.specs.Door.{numbers_by}
-use Rattle.gulambitok.proofs.Called.{by_numbers, answered}
+use Rattle.gulambitok.proofs.Called.{by_setup, answered}
 use Rattle.gulambitok.proofs.gulambitok_label_compare.Goals as goal
 
 pub returns : goal.returns
 returns c =
     let x = c.args in
-    let given = numbers_by x.desks x.phases x.seat_lag x.shelf_lag x.back x.ahead in
+    let X = setup_with (numbers_by x.desks x.phases x.seat_lag x.shelf_lag x.back x.ahead) x.limits.now in
     answered _ _ _ _
-    (by_numbers (λ X. compare_of X x.first.now x.second.now) x.limits.now _ given c.numbers_by-s.ensures _
+    (by_setup (λ Y. compare_of Y x.first.now x.second.now) _ X c.setup_by-setup.ensures _
     c.compare.ensures)
     c.give_relation.ensures

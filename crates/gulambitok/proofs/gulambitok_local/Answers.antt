@@ -1,8 +1,8 @@
 use mathlib.Core.Path.{refl}
-use mathlib.Core.Option.{none}
 use lib.ListN.{length}
 use Rattle.rules.specs.Model.{Act, local, done}
 use Rattle.rules.specs.Calls.{on}
+use Rattle.rules.specs.Replies.{stamped_value}
 use Rattle.book.specs.Answers.{answer_to, book_after}
 use Rattle.door.specs.Door.{wished}
 use Rattle.gulambitok.proofs.Called.{granted, slot_said, event_short, event_fits, event_makes, first_enough, last_enough}
@@ -14,8 +14,9 @@ returns-then-slot_short-stamp c =
     let o = c.slot_short in
     let made : Act = local x.desk (wished x.keep) in
     event_short x.book.now (wished x.keep) x.stamp.now x.slot.now o.result o.ensures
-    (answer_to x.book.now (on made)) x.book.now (book_after x.book.now (on made)) c.local_grant-grant.result
-    (granted made x.book.now (wished x.keep) _ c.local_grant-grant.ensures) _ c.number_by.ensures c.if-slot_short-stamp.true
+    (answer_to x.book.now (on made)) x.book.now (book_after x.book.now (on made)) c.number.result
+    (granted made x.book.now (wished x.keep) _ c.local_grant-grant.result c.number.ensures c.local_grant-grant.ensures)
+    _ c.number_by.ensures c.if-slot_short-stamp.true
 
 pub give_stamp-requires : goal.give_stamp-requires
 unfolding done
@@ -29,8 +30,8 @@ give_stamp-requires c =
       record_size_in_bounds = last_enough o.result _ _ e.false;
       kept_in_bounds = event_fits x.book.now (wished x.keep) x.stamp.now x.slot.now o.result o.ensures
           (answer_to x.book.now (on made)) (slot_said made x.book.now (wished x.keep) refl)
-          k.result.number k.result.stamp none k.result.kept
-          k.ensures.result_value k.ensures.beside (first_enough o.result (length x.stamp.now) 20 e.false);
+          stamped_value (λ x. x.slot) (λ x. refl) k.result k.ensures.result_value
+          (first_enough o.result (length x.stamp.now) 20 e.false);
     }
 
 pub returns : goal.returns

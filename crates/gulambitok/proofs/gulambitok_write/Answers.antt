@@ -1,4 +1,5 @@
+use mathlib.Core.Path.{◌∙◌}
 use Rattle.gulambitok.proofs.gulambitok_write.Goals as goal
 
 pub returns : goal.returns
-returns c = c.write.ensures
+returns c = record { value = c.number.ensures ∙ c.write.ensures.value; target_after = c.write.ensures.target_after }

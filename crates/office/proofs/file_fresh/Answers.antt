@@ -1,10 +1,6 @@
-use mathlib.Core.Path.{sym, ◌∙◌}
-use Rattle.tools.proofs.Reasons.{if_undone}
-use Rattle.office.proofs.Filed.{if_done_lem}
+use Rattle.std.proofs.Common.{◌∙◌}
+use Rattle.office.proofs.Filed.{whole_front}
 use Rattle.office.proofs.file_fresh.Goals as goal
 
-pub returns-then-number-ne-DONE : goal.returns-then-number-ne-DONE
-returns-then-number-ne-DONE c = sym (if_undone _ _ _ c.if-number-ne-DONE.true)
-
 pub returns : goal.returns
-returns c = c.clear.ensures ∙ sym (if_done_lem _ _ _ c.if-number-ne-DONE.false)
+returns c = whole_front _ c.args.summary.now c.requires ∙ c.clear.ensures

@@ -1,41 +1,21 @@
-use mathlib.Core.Path.{◌≡◌, refl, sym, ap, ◌∙◌}
-use mathlib.Core.Option.{some}
-use Rattle.rules.specs.Model.{Act, receive, Answer}
+use Rattle.std.proofs.Common.{rules, refl}
+use Rattle.rules.specs.Model.{Act, receive}
+use Rattle.rules.specs.Replies.{received_value}
 use Rattle.rules.specs.Calls.{on}
-use Rattle.book.specs.Answers.{answer_to}
-use Rattle.book.proofs.Numbers.{answer_number}
-use Rattle.refusals.proofs.Grants.{grant_number}
-use Rattle.office.proofs.Filed.{due_ready, filed, unready_receives, event_number, left_sound}
+use Rattle.office.proofs.Filed.{changed, left_sound, granted_number}
 use Rattle.office.proofs.receive.Goals as goal
 
-pub returns-then-due-ne-DONE : goal.returns-then-due-ne-DONE
-returns-then-due-ne-DONE c =
+pub change-requires-clause-whole : goal.change-requires-clause-whole
+change-requires-clause-whole c =
     let made : Act = let x = c.args in receive x.desk x.place x.keep in
-    let x = c.args in
-    let u = unready_receives x.book.now x.summary.now (on made) refl c.papers_number-due.result c.papers_number-due.ensures c.if-due-ne-DONE.true
-    c.receive_grant-grant.result.number
-    (grant_number x.book.now made x.keep c.receive_grant-grant.result c.receive_grant-grant.ensures ∙ sym (answer_number x.book.now made))
-    c.first_number.result c.first_number.ensures c.receive_refused.result c.receive_refused.ensures in
-    record { result_value = u.0; beside = u.1.0; beside_learnt = u.1.1.0; summary_after = u.1.1.1 }
-
-pub file-requires : goal.file-requires
-file-requires c =
-    let made : Act = let x = c.args in receive x.desk x.place x.keep in
-    -- the number that the call on the book has answered
-    let number : c.receive-received.result.number ≡ (answer_to c.args.book.now (on made)).number =
-    event_number _ c.receive-received.result.stamp (some c.receive-received.result.learnt) c.receive-received.result.kept
-    ∙ ap (λ (a : Answer). a.number) c.receive-received.ensures.result_value in
-    let x = c.args in (
-      due_ready x.summary.now _ c.papers_number-due.ensures c.if-due-ne-DONE.false,
-      left_sound x.book.now (on made) _ number _ c.receive-received.ensures.book_after,
-    )
+    λ x b h. left_sound received_value c.args.book.now (on made) x b (search rules) (search rules)
 
 pub returns : goal.returns
 returns c =
-    let made : Act = let x = c.args in receive x.desk x.place x.keep in
     let x = c.args in
-    let r = filed x.book.now x.summary.now (on made) refl c.papers_number-due.result c.papers_number-due.ensures c.if-due-ne-DONE.false
-    _ c.receive-received.ensures.result_value c.receive-received.result.number
-    (event_number _ c.receive-received.result.stamp (some c.receive-received.result.learnt) c.receive-received.result.kept) _ _
-    c.receive-received.ensures.book_after c.file.ensures in
-    record { result_value = r.0; beside = c.receive-received.ensures.beside; beside_learnt = c.receive-received.ensures.beside_learnt; summary_after = r.1 }
+    let made : Act = receive x.desk x.place x.keep in
+    let u = changed received_value x.book.now x.summary.now (on made) refl c.change.result _ _
+    (λ n. let h = c.change.ensures.unready n in let g = h.1 in
+    (h.0, granted_number x.book.now made x.keep h.0 (search rules), h.2, h.3, h.4))
+    (λ e. let h = c.change.ensures.made e in let f = h.0 in (search rules, search rules, h.1)) in
+    record { result_value = u.0; summary_after = u.1 }

@@ -1,34 +1,66 @@
-use mathlib.Core.Path.{ap, ◌∙◌}
+use Rattle.std.proofs.Common.{Err}
+use mathlib.Core.Path.{◌≡◌}
 use native.Mathlib.Omega.{arith}
-use Rattle.refusals.specs.declared.Grant.{Grant}
-use Rattle.portal.proofs.Acts.{refused_receives, receive_grows, receive_place, receive_receives}
+use borrow.Author.Rules.{rules}
+use Rattle.rules.specs.Model as Model
+use Rattle.rules.specs.Replies.{received_value}
+use Rattle.portal.proofs.Acts.{refused_event, granted_size, lent, returned, receive_grows, receive_place, receive_below, receive_acts}
 use Rattle.portal.proofs.receive.Goals as goal
 
-pub returns-then-grant-ne-DONE : goal.returns-then-grant-ne-DONE
-returns-then-grant-ne-DONE c =
-    let g = c.receive_grant-grant in
-    let r = refused_receives _ _ _ (ap (λ (x : Grant). x.number) g.ensures) c.if-grant-ne-DONE.true _ c.receive_refused.ensures in
-    record { result_value = r.0; beside = r.1.0; beside_learnt = r.1.1.0; book_after = r.1.1.1 }
+pub returns-in_err-slot : goal.returns-in_err-slot
+returns-in_err-slot c =
+    let m = c.args in
+    let e : c.from_residual.result ≡ Err c.in_err-slot.field-0.0 = search rules in
+    let r = refused_event _ (Model.receive m.desk m.place m.keep) _ received_value _ e m.keep c.in_err-slot.ensures in
+    record { result_value = r.0; book_after = r.1 }
+
+pub unwrap-book-requires : goal.unwrap-book-requires
+unwrap-book-requires c =
+    let m = c.args in
+    c.as_mut_array.ensures.variant.1 (granted_size _ (Model.receive m.desk m.place m.keep) m.keep _ c.in_ok-slot.ensures)
+
+pub invariant_of-merged_row : goal.invariant_of-merged_row
+invariant_of-merged_row c =
+    let m = c.args in
+    let same = (rw c.unwrap-book.ensures at c.as_mut_array.ensures.cases).same in
+    let g = lent _ _ same (Model.receive m.desk m.place m.keep) m.keep _ c.in_ok-slot.ensures in
+    record { here = (receive_grows _ _ _ _ _ g).at }
 
 pub merged_row-merged-requires : goal.merged_row-merged-requires
 merged_row-merged-requires c =
-    let g = c.receive_grant-grant in record { grows = receive_grows _ _ _ _ g.result g.ensures c.if-grant-ne-DONE.false; place_lt_places = receive_place _ _ _ _ g.result g.ensures c.if-grant-ne-DONE.false }
+    let m = c.args in
+    let same = (rw c.unwrap-book.ensures at c.as_mut_array.ensures.cases).same in
+    let g = lent _ _ same (Model.receive m.desk m.place m.keep) m.keep _ c.in_ok-slot.ensures in
+    record { grows = receive_grows _ _ _ _ _ g; place_lt_places = receive_place _ _ _ _ _ g }
 
 pub overflow_add-from : goal.overflow_add-from
-overflow_add-from c = let g = c.receive_grant-grant in omega (arith, receive_place _ _ _ _ g.result g.ensures c.if-grant-ne-DONE.false)
+overflow_add-from c =
+    let m = c.args in
+    let same = (rw c.unwrap-book.ensures at c.as_mut_array.ensures.cases).same in
+    let g = lent _ _ same (Model.receive m.desk m.place m.keep) m.keep _ c.in_ok-slot.ensures in
+    omega (arith, receive_place _ _ _ _ _ g)
 
 pub clear-requires : goal.clear-requires
 clear-requires c =
-    let g = c.receive_grant-grant in record { book_len = (receive_grows _ _ _ _ g.result g.ensures c.if-grant-ne-DONE.false).at.size; k_lt_records = omega (arith, receive_place _ _ _ _ g.result g.ensures c.if-grant-ne-DONE.false) }
+    let m = c.args in
+    let same = (rw c.unwrap-book.ensures at c.as_mut_array.ensures.cases).same in
+    let g = lent _ _ same (Model.receive m.desk m.place m.keep) m.keep _ c.in_ok-slot.ensures in
+    omega (arith, receive_place _ _ _ _ _ g)
 
-pub take_row-stamped-requires : goal.take_row-stamped-requires
-take_row-stamped-requires c =
-    let g = c.receive_grant-grant in let a = (receive_grows _ _ _ _ g.result g.ensures c.if-grant-ne-DONE.false).at in record { book_len = c.clear.auto.book ∙ a.size; desk_lt_seats = a.eight }
+pub take_row-slot-requires : goal.take_row-slot-requires
+take_row-slot-requires c =
+    let m = c.args in
+    let same = (rw c.unwrap-book.ensures at c.as_mut_array.ensures.cases).same in
+    let g = lent _ _ same (Model.receive m.desk m.place m.keep) m.keep _ c.in_ok-slot.ensures in
+    record { desk_lt_seats = (receive_grows _ _ _ _ _ g).at.eight; slot_lt_places = receive_below _ _ _ _ _ g }
 
 pub returns : goal.returns
 returns c =
-    let g = c.receive_grant-grant in
-    let m = c.merged_row-merged.ensures in
-    let t = c.take_row-stamped.ensures in
-    let r = receive_receives _ _ _ _ g.result g.ensures c.if-grant-ne-DONE.false _ _ _ _ _ t.value m.0 m.1 c.clear.ensures t.book_after in
-    record { result_value = r.0; beside = r.1.0; beside_learnt = r.1.1.0; book_after = r.1.1.1 }
+    let m = c.args in
+    let same = (rw c.unwrap-book.ensures at c.as_mut_array.ensures.cases).same in
+    let g = lent _ _ same (Model.receive m.desk m.place m.keep) m.keep _ c.in_ok-slot.ensures in
+    let t = c.take_row-slot.ensures in
+    let n = c.merged_row-merged.ensures in
+    let r = returned _ _ same (Model.receive m.desk m.place m.keep) _ _
+    (receive_acts _ _ _ _ _ g _ _ _ _ _ t.value n.0 n.1 c.clear.ensures t.book_after) in
+    record { result_value = r.0; book_after = r.1 }

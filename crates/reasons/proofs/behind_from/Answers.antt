@@ -1,17 +1,15 @@
-use mathlib.Core.Path.{◌≡◌, sym, ◌∙◌}
+use mathlib.Core.Path.{refl, ◌∙◌}
 use borrow.Author.Rules.{rules}
-use native.Mathlib.Omega.{arith}
-use Rattle.tools.proofs.Tests.{any_none, any_more, any_at}
+use borrow.Author.Tests.{tests}
+use Rattle.std.proofs.lemmas.Iterator.{YieldsList-from_range}
+use Rattle.std.proofs.lemmas.Iterator.Search.{any_from_yields_List}
+use Rattle.reasons.specs.Held.{lags_at}
+use Rattle.reasons.proofs.Found.{any_ranged}
 use Rattle.reasons.proofs.behind_from.Goals as goal
 
-pub loop-p-init : goal.loop-p-init
-loop-p-init c = (search rules, any_none _)
-
-pub returns-then-lags_at : goal.returns-then-lags_at
-returns-then-lags_at c = sym (any_at 32 _ c.loop-p.p (omega arith) (sym c.lags_at.ensures ∙ c.if-lags_at.true))
-
-pub loop-p-preserved : goal.loop-p-preserved
-loop-p-preserved c = (omega arith, any_more _ _ c.loop-p.invariant.1 (sym c.lags_at.ensures ∙ c.if-lags_at.false))
-
 pub returns : goal.returns
-returns c = let e : c.loop-p.p ≡ 32 = omega arith in sym (rw e at c.loop-p.invariant.1)
+returns c =
+    let x = c.args in
+    any_from_yields_List (lags_at x.desk.book.now x.desk.number x.bound x.first) _ _ _ c.any.ensures.ran
+    (YieldsList-from_range 0 32 32 refl refl) (λ p b q k. search (rules, tests))
+    ∙ any_ranged 32 _

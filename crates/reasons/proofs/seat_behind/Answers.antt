@@ -1,29 +1,23 @@
-use mathlib.Core.Path.{◌≡◌, sym, ◌∙◌}
+use mathlib.Core.Path.{refl, ap, ◌∙◌}
 use native.Mathlib.Omega.{arith}
-use Rattle.tools.proofs.Tests.{any_none, any_more, any_at}
-use Rattle.tools.specs.Lists.{byte}
+use borrow.Author.Rules.{rules}
+use borrow.Author.Tests.{tests}
+use Rattle.std.proofs.lemmas.Iterator.{YieldsList-from_range, serves_from_Range}
+use Rattle.std.proofs.lemmas.Iterator.Search.{any_from_yields_List}
+use Rattle.tools.specs.Tests.{any}
 use Rattle.book.proofs.Told.{few_desks}
+use Rattle.reasons.specs.Held.{seat_lags_at}
+use Rattle.reasons.proofs.Found.{any_ranged}
 use Rattle.reasons.proofs.seat_behind.Goals as goal
 
-pub loop-k-init : goal.loop-k-init
-loop-k-init c = (omega arith, any_none _, c.desks_of-d.ensures)
-
-pub seat_lags-requires : goal.seat_lags-requires
-seat_lags-requires c =
-    let f = few_desks c.args.book.now c.requires.whole in
-    let e = c.loop-k.invariant.2 in record { at_desk = c.requires; seat_lt_seats = omega arith }
-
-pub returns-then-seat_lags : goal.returns-then-seat_lags
-returns-then-seat_lags c =
-    let e = c.loop-k.invariant.2 in sym
-    (any_at (byte c.args.book.now 2) _ c.loop-k.k (omega arith)
-    (sym c.seat_lags.ensures ∙ c.if-seat_lags.true))
-
-pub loop-k-preserved : goal.loop-k-preserved
-loop-k-preserved c =
-    (omega arith, any_more _ _ c.loop-k.invariant.1 (sym c.seat_lags.ensures ∙ c.if-seat_lags.false), c.loop-k.invariant.2)
+pub any-requires-clause-callable : goal.any-requires-clause-callable
+any-requires-clause-callable c =
+    let f = few_desks c.args.desk.book.now c.args.desk.here.whole in
+    serves_from_Range (λ x q k. search rules) (λ x l m. search (rules, f))
 
 pub returns : goal.returns
 returns c =
-    let e : c.loop-k.k ≡ byte c.args.book.now 2 = (let z = c.loop-k.invariant.2 in omega arith) in
-    sym (rw e at c.loop-k.invariant.1)
+    let d = c.args.desk in let n = c.desks_of in
+    any_from_yields_List (seat_lags_at d.book.now d.number) _ _ _ c.any.ensures.ran
+    (YieldsList-from_range 0 n.result n.result refl (omega arith)) (λ p b q k. search (rules, tests))
+    ∙ any_ranged n.result _ ∙ ap (λ n. any n (seat_lags_at d.book.now d.number)) n.ensures

@@ -1,4 +1,4 @@
-use Rattle.std.proofs.Common.{◌+◌, sym, ◌∙◌, arith}
+use Rattle.std.proofs.Common.{◌+◌, ◌-◌, sym, ◌∙◌, arith}
 use Rattle.ring.proofs.Ring.{lag_down, lag_shorter}
 use Rattle.ring.proofs.lag.Goals as goal
 
@@ -11,5 +11,5 @@ pub returns : goal.returns
 returns c h =
     let full = c.full_lag-lag in
     let a = c.args in
-    lag_shorter (a.last + 1) 256 a.own a.v full.result _ _ (omega arith) (omega arith) full.ensures
-    c.wrapping_sub_u8.type_inv c.wrapping_sub_u8.ensures.value (omega arith)
+    lag_shorter (a.last + 1) 256 a.own a.v full.result (255 - a.last) _ (omega arith) (omega arith) full.ensures
+    (omega arith) (omega arith) (omega arith)

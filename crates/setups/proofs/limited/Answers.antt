@@ -1,40 +1,34 @@
-use Prim.Native.Nat.{ℕ}
-use mathlib.Core.Path.{◌≡◌, sym, ◌∙◌}
-use mathlib.Core.Bool.{Bool}
-use mathlib.Core.List.{List}
-use native.Mathlib.Omega.{arith}
-use lib.ListN.{length}
-use borrow.Author.Tests.{eq-eqb, ne_eqb}
+use Rattle.std.proofs.Common.{◌≡◌, ◌<◌, ℕ, Bool, true, false, List, length, sym, arith, rules}
+use borrow.Author.Tests.{eq-eqb, ne_eqb, tests}
+use Rattle.std.specs.Prelude.{MatchBool}
+use Rattle.std.specs.List.{AllWithin, HoldsAt}
+use Rattle.std.proofs.lemmas.Iterator.{cases_from_all, YieldsList-from_slice}
+use Rattle.tools.specs.Tests.{all_below}
 use Rattle.tools.specs.Lists.{byte}
-use Rattle.tools.proofs.Tests.{all_none, all_more, all_not}
+use Rattle.tools.proofs.Tests.{all_in, all_not}
 use Rattle.rules.specs.Setups.{limit_ok, limited}
 use Rattle.setups.proofs.limited.Goals as goal
 
-abbrev ok_at : List ℕ → ℕ → Bool
-ok_at limits j = limit_ok (byte limits j)
+abbrev Ok : Bool → ℕ → Type 0
+Ok t l = limit_ok l ≡ t
 
-pub returns-then-limits-s : goal.returns-then-limits-s
+-- what all answers is whether each limit is in its range
+judged : (l : List ℕ) (r : Bool)
+    → MatchBool r (AllWithin (Ok true) l 0 (length l)) ((k : ℕ) × (k < length l) × HoldsAt (Ok false) l k)
+    → r ≡ all_below (length l) (λ j. limit_ok (byte l j))
+judged l true h = sym (all_in (λ j. limit_ok (byte l j)) (length l) (λ i m. h i 0 (omega arith) m))
+judged l false (k, m, h) = sym (all_not (λ j. limit_ok (byte l j)) (length l) k m (h 0))
+
+pub returns-then-setup : goal.returns-then-setup
 unfolding limited
-returns-then-limits-s c = let x = c.args in rw (limited, ne_eqb (length x.limits.now) x.s.desks (λ e. omega arith))
+returns-then-setup c =
+    let l = c.args.setup.limits.now in
+    let e : length l ≡ c.args.setup.numbers.desks = c.if-setup.true in
+    let ran =
+    cases_from_all _ _ _ (Ok true) (Ok false) c.all.ensures.ran (YieldsList-from_slice l cc)
+    (λ x q k. search (rules, tests)) (λ x q k. search (rules, tests)) in
+    rw (eq-eqb _ _ e, ← e) (judged l _ ran)
 
-pub loop-j-init : goal.loop-j-init
-loop-j-init c = (omega arith, all_none _)
-
--- a limit out of its range
-pub returns-then-not-limit_ok : goal.returns-then-not-limit_ok
+pub returns-else-setup : goal.returns-else-setup
 unfolding limited
-returns-then-not-limit_ok c =
-    let x = c.args in let e : length x.limits.now ≡ x.s.desks = omega arith in
-    let no = sym c.limit_ok.ensures ∙ c.if-not-limit_ok.true in
-    rw (limited, eq-eqb _ _ e) (sym (all_not (ok_at x.limits.now) x.s.desks c.loop-j.j (omega arith) no))
-
-pub loop-j-preserved : goal.loop-j-preserved
-loop-j-preserved c =
-    let l = c.args.limits.now in (omega arith, all_more (ok_at l) c.loop-j.j c.loop-j.invariant.1 (sym c.limit_ok.ensures ∙ c.if-not-limit_ok.false))
-
-pub returns : goal.returns
-unfolding limited
-returns c =
-    let x = c.args in let e : length x.limits.now ≡ x.s.desks = omega arith in
-    let q : c.loop-j.j ≡ x.s.desks = omega arith in
-    rw (limited, eq-eqb _ _ e) (rw q at (sym c.loop-j.invariant.1))
+returns-else-setup c = let e = ne_eqb _ _ c.if-setup.false in rw e

@@ -1,24 +1,15 @@
-use Rattle.text.specs.Stream.{flat}
-use Rattle.text.proofs.Streams.{part_none, part_more, flat_more}
-use native.Mathlib.Omega.{arith}
+use Rattle.text.proofs.Streams.{line_ends}
+use Rattle.std.proofs.Common.{◌≡◌, ◌-◌, length, take, drop, length-drop, arith, rules, tests}
+use Rattle.std.proofs.lemmas.Iterator.{IsFirst-from_position, YieldsList-from_slice}
+use lib.Seq.{take_all}
 use Rattle.text.proofs.line_end.Goals as goal
-
-pub loop-i-init : goal.loop-i-init
-unfolding flat
-loop-i-init c = (omega arith, omega arith, rw (part_none c.args.from c.args.s.now))
-
-pub returns-then-s-i-eq10 : goal.returns-then-s-i-eq10
-returns-then-s-i-eq10 c =
-    let h = c.loop-i in record { from = omega arith; within = omega arith; plain = h.invariant.2; newline = λ _. c.if-s-i-eq10.true }
-
-pub loop-i-preserved : goal.loop-i-preserved
-loop-i-preserved c =
-    let h = c.loop-i in let a = c.args in (
-      omega arith,
-      omega arith,
-      rw (part_more a.from h.i a.s.now (omega arith) (omega arith)) (flat_more _ _ h.invariant.2 c.if-s-i-eq10.false),
-    )
 
 pub returns : goal.returns
 returns c =
-    let h = c.loop-i in record { from = omega arith; within = omega arith; plain = h.invariant.2; newline = λ l. absurd (omega arith) }
+    let s = c.args.s.now in
+    let rest = drop c.args.from s in
+    let e : take (length s - c.args.from) rest ≡ rest = take_all _ _ (omega (arith, length-drop c.args.from s)) in
+    let found = IsFirst-from_position _ _ _ (λ x. x ≡ 10) (λ x. x ≡ 10 → ⊥) c.position.ensures.ran
+    (YieldsList-from_slice rest (search rules)) (λ x q k. search (rules, tests)) (λ x q k. search (rules, tests)) in
+    let at = line_ends s c.args.from _ c.requires found in
+    search rules

@@ -8,4 +8,5 @@ use Rattle.gulambitok.proofs.papers.gulambitok_office_discard.Goals as goal
 pub returns : goal.returns
 returns c =
     let x = c.args in
-    filed (folder x.book.now x.summary.now) (on (discard x.place)) _ c.discard.ensures.result_value _ c.discard.ensures.summary_after
+    filed (folder x.book.now x.summary.now) (on (discard x.place)) c.discard.result c.discard.ensures.result_value
+    _ c.number.ensures _ c.discard.ensures.summary_after

@@ -8,4 +8,5 @@ use Rattle.gulambitok.proofs.papers.gulambitok_office_drop.Goals as goal
 pub returns : goal.returns
 returns c =
     let x = c.args in
-    filed (folder x.book.now x.summary.now) (on (drop x.slot)) _ c.drop.ensures.result_value _ c.drop.ensures.summary_after
+    filed (folder x.book.now x.summary.now) (on (drop x.slot)) c.drop.result c.drop.ensures.result_value
+    _ c.number.ensures _ c.drop.ensures.summary_after

@@ -1,8 +1,8 @@
 use mathlib.Core.Path.{refl}
-use mathlib.Core.Option.{none}
 use lib.ListN.{length}
 use Rattle.rules.specs.Model.{Act, local, done}
 use Rattle.rules.specs.Calls.{on}
+use Rattle.rules.specs.Replies.{stamped_value}
 use Rattle.office.specs.Office.{Folder, folder, office_answer, folder_after}
 use Rattle.door.specs.Door.{wished}
 use Rattle.gulambitok.proofs.Called.{event_short, event_fits, event_makes, first_enough, last_enough}
@@ -16,8 +16,9 @@ returns-then-slot_short-stamp c =
     let lent : Folder = folder x.book.now x.summary.now in
     let made : Act = local x.desk (wished x.keep) in
     event_short x.book.now (wished x.keep) x.stamp.now x.slot.now o.result o.ensures
-    (office_answer lent (on made)) lent (folder_after lent (on made)) c.local_grant-grant.result
-    (granted_filed made lent (wished x.keep) _ c.local_grant-grant.ensures) _ c.number_by.ensures c.if-slot_short-stamp.true
+    (office_answer lent (on made)) lent (folder_after lent (on made)) c.number.result
+    (granted_filed made lent (wished x.keep) _ c.local_grant-grant.result c.number.ensures c.local_grant-grant.ensures)
+    _ c.number_by.ensures c.if-slot_short-stamp.true
 
 -- steps are found by their names, whatever is lent to the call: a call on the book alone falls by what it answers
 pub give_stamp-requires : goal.give_stamp-requires
@@ -33,8 +34,8 @@ give_stamp-requires c =
       record_size_in_bounds = last_enough o.result _ _ e.false;
       kept_in_bounds = event_fits x.book.now (wished x.keep) x.stamp.now x.slot.now o.result o.ensures
           (office_answer lent (on made)) (slot_filed made lent (wished x.keep) refl)
-          k.result.number k.result.stamp none k.result.kept
-          k.ensures.result_value k.ensures.beside (first_enough o.result (length x.stamp.now) 20 e.false);
+          stamped_value (λ x. x.slot) (λ x. refl) k.result k.ensures.result_value
+          (first_enough o.result (length x.stamp.now) 20 e.false);
     }
 
 pub returns : goal.returns

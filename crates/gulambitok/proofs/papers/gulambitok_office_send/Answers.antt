@@ -4,9 +4,10 @@ use lib.Dec.{ltb}
 use lib.ListN.{length}
 use Rattle.rules.specs.Model.{Act, send, done}
 use Rattle.rules.specs.Calls.{on}
+use Rattle.rules.specs.Replies.{sent_value}
 use Rattle.office.specs.Office.{Folder, folder, office_answer, folder_after}
 use Rattle.door.specs.Door.{wished, place_in}
-use Rattle.gulambitok.proofs.Called.{with_byte_short, sent_fits, with_byte_makes, first_enough, last_enough}
+use Rattle.gulambitok.proofs.Called.{with_byte_short, event_fits, with_byte_makes, first_enough, last_enough}
 use Rattle.gulambitok.proofs.Filed.{granted_filed, slot_filed}
 use Rattle.gulambitok.proofs.papers.gulambitok_office_send.Goals as goal
 
@@ -17,8 +18,9 @@ returns-then-slot_short-place c =
     let lent : Folder = folder x.book.now x.summary.now in
     let made : Act = send x.desk x.to (wished x.keep) in
     with_byte_short x.book.now (wished x.keep) x.stamp.now x.slot.now o.result o.ensures
-    (office_answer lent (on made)) lent (folder_after lent (on made)) c.send_grant-grant.result
-    (granted_filed made lent (wished x.keep) _ c.send_grant-grant.ensures) _ c.number_by.ensures
+    (office_answer lent (on made)) lent (folder_after lent (on made)) c.number.result
+    (granted_filed made lent (wished x.keep) _ c.send_grant-grant.result c.number.ensures c.send_grant-grant.ensures)
+    _ c.number_by.ensures
     place_in refl x.place.now c.if-slot_short-place.true
 
 -- steps are found by their names, whatever is lent to the call: a call on the book alone falls by what it answers
@@ -35,10 +37,10 @@ give_sent-requires c =
     let both = first_enough (o.result || b) (length x.stamp.now) 20 e.false in
     record {
       record_size_in_bounds = (last_enough (o.result || b) _ _ e.false, last_enough o.result _ _ both);
-      kept_in_bounds = sent_fits x.book.now (wished x.keep) x.stamp.now x.slot.now o.result o.ensures
+      kept_in_bounds = event_fits x.book.now (wished x.keep) x.stamp.now x.slot.now o.result o.ensures
           (office_answer lent (on made)) (slot_filed made lent (wished x.keep) refl)
-          k.result.place k.result.stamp k.result.kept
-          k.ensures.kept_value k.ensures.beside_post (first_enough o.result (length x.place.now) 1 both);
+          sent_value (λ x. x.slot) (λ x. refl) k.result k.ensures.result_value
+          (first_enough o.result (length x.place.now) 1 both);
     }
 
 pub returns : goal.returns
@@ -51,5 +53,5 @@ returns c =
     let made : Act = send x.desk x.to (wished x.keep) in
     with_byte_makes x.book.now (wished x.keep) x.stamp.now x.slot.now o.result o.ensures
     (office_answer lent (on made)) lent (folder_after lent (on made))
-    _ k.ensures.kept_value _ k.ensures.summary_after _ c.desks_in-desks.ensures _ _ _ place_in _ _ e.false
+    _ k.ensures.result_value _ k.ensures.summary_after _ c.desks_in-desks.ensures _ _ _ place_in _ _ e.false
     c.give_sent.ensures

@@ -1,0 +1,28 @@
+use Rattle.text.specs.Stream.{most}
+use Rattle.tools.proofs.Tests.{lt_or_le}
+use Rattle.std.proofs.Common.{◌≡◌, ◌<◌, ◌≤◌, ◌+◌, ℕ, List, ◌++◌, length, take, ap, sym, ◌∙◌, arith, rules, min}
+use mathlib.Core.Logic.{⊎_elim}
+use lib.Seq.{take_all, take-append-add}
+use Rattle.text.proofs.lengthen.Goals as goal
+
+-- of a list as many as there are, but no more than n, are its first n
+upto : (xs : List ℕ) (n k : ℕ) → k ≡ min (length xs) n → take k xs ≡ take n xs
+upto xs n k e =
+    ⊎_elim
+    (λ (h : length xs < n). take_all k xs (omega arith) ∙ sym (take_all n xs (omega arith)))
+    (λ (h : n ≤ length xs). ap (λ (m : ℕ). take m xs) (omega arith))
+    (lt_or_le (length xs) n)
+
+lengthened
+    : (held more : List ℕ) (room : ℕ)
+    → length held + room ≡ most
+    → held ++ take room more ≡ take most (held ++ more)
+lengthened held more room e = sym (rw (← e) (take-append-add held more room))
+
+pub returns : goal.returns
+returns c =
+    let room = c.remaining_capacity-room.result in
+    let held = c.args.line.now.items in
+    let more = c.args.more.now in
+    let e : c.try_extend_from_slice.new.self.items ≡ held ++ take c.min.result more = search rules in
+    e ∙ rw (upto more room _ c.min.ensures) (lengthened held more room (omega arith))
