@@ -1,5 +1,6 @@
 -- What a write makes of the run, and what a writer holds after it.
 -- Assumes nothing.
+--   Numbers, numbers   what becomes of the run by the system's own numbers: 11 and 4 go on, 32 and 28 stop it
 --   untold       a write that stops the run leaves bytes unwritten
 --   kept, joins  what a writer holds after a call that keeps it, and after two that append
 --   holds_none, same   what it holds where nothing is written
@@ -16,10 +17,10 @@ use mathlib.Core.List.{List, [], ◌∷◌, ◌++◌, append_assoc, append-nil}
 use native.Mathlib.Omega.{arith}
 use lib.ListN.{length, take, drop, length-append, length-drop}
 use lib.Seq.{take-add, take_all}
-use Rattle.std.specs.Prelude.{Result, Ok, Err, Option, Some, None, IfOk}
+use Rattle.std.specs.Prelude.{pos, Result, Ok, Err, Option, Some, None, IfOk}
 use Rattle.std.specs.Io.KnownBytes.{Appends, Keeps, WriteAppends}
 use Rattle.std.specs.Io.{ReadsAtMost}
-use Rattle.std.specs.IoError.{error_kind}
+use Rattle.std.specs.IoError.{error_kind, os_error_kind}
 use Rattle.std.specs.declared.io.Error.{Error}
 use Rattle.std.specs.declared.io.ErrorKind.{ErrorKind}
 use Rattle.std.specs.declared.io.ErrorKind.TheVariants.{WouldBlock, Interrupted, BrokenPipe}
@@ -29,6 +30,17 @@ use Rattle.text.specs.Stream.{State, last_book}
 use Rattle.answering.specs.Answering.{answering}
 use Rattle.office.specs.Office.{Folder}
 use Rattle.ends.specs.Ends.{Outcome, failure_of, read_went, write_went, Told, Writes, Goes, end_book}
+
+-- EAGAIN, EINTR, EPIPE, and a full disk
+pub record Numbers (bad : Stop) : Type 0 where
+  pub not_ready : failure_of (os_error_kind (pos 11)) bad ≡ Ok 0
+  pub interrupted : failure_of (os_error_kind (pos 4)) bad ≡ Ok 0
+  pub unread : failure_of (os_error_kind (pos 32)) bad ≡ Err Gone
+  pub full_disk : failure_of (os_error_kind (pos 28)) bad ≡ Err bad
+
+pub numbers : (bad : Stop) → Numbers bad
+unfolding os_error_kind
+numbers bad = record { not_ready = refl; interrupted = refl; unread = refl; full_disk = refl }
 
 fails : (k : ErrorKind) (e : Option Error) (w : Stop) → failure_of k (Unwritten e) ≡ Err w → (n : ℕ) → 0 < n → Told (Err w) n
 fails WouldBlock e w h n l = absurd (cc h)

@@ -11,8 +11,7 @@
 --   then s f o         the text s, and behind it f of what o holds, if it holds something
 --   answer_text D a    the line in a book of D desks: the number, then each part of the value that is there
 --   longest            the bytes of the longest line: number, owner, eight pairs, a place or a number of desks, slot and newline
---   Printable D a      there are at most eight desks, where their pairs may be asked for
-use Rattle.std.specs.Prelude.{ℕ, zero, suc, ◌≤◌, ◌≡◌, Bool, true, false, List, [], ◌∷◌, ◌++◌, eqb}
+use Rattle.std.specs.Prelude.{ℕ, zero, suc, Bool, true, false, List, [], ◌∷◌, ◌++◌, eqb}
 use Rattle.std.proofs.Math.Option.{Option, none, some}
 use Rattle.tools.specs.Tests.{pick}
 use Rattle.text.specs.Words.{ascii}
@@ -66,6 +65,3 @@ answer_text D a =
 
 abbrev pub longest : ℕ
 longest = 80
-
-abbrev pub Printable : ℕ → Answer → Type 0
-Printable D a = a.number ≡ 0 → D ≤ 8
