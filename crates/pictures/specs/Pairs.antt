@@ -2,7 +2,7 @@
 -- Assumes nothing.
 --   far s l, odd s l   two places of the list l, the lower first: a stamp is out of reach from the other; the desks are at odds
 --   found n p f        what goes with the lowest number below n that p holds of, by f; none where there is none
---   odds_with i o      the desk i and the one of o; odds s l i, and the lowest that it is at odds with
+--   odds s l i         the i-th desk, and the lowest that it is at odds with
 --   pairs_of s l i     OutOfReach where one of the pairs of place i with a higher one is out of reach, else the lowest at odds with it
 --   pairs s l          OutOfReach where any two are out of reach, else the lowest two at odds
 use Rattle.std.specs.Prelude.{ℕ, Bool, List, length, ltb, Option, None, Some, Result, Ok, Err}
@@ -23,10 +23,6 @@ odd s l = of_two (at_odds (ring_of (setup_of s)) (tables_of s)) l
 
 abbrev pub found : {A : Type 0} → ℕ → (ℕ → Bool) → (ℕ → A) → Option A
 found n p f = pick (ltb (lowest n p) n) (Some (f (lowest n p))) None
-
-abbrev pub odds_with : ℕ → Option ℕ → Option Odds
-odds_with i None = None
-odds_with i (Some k) = Some record { lower = i; higher = k }
 
 abbrev pub odds : List ℕ → List ℕ → ℕ → Odds
 odds s l i = record { lower = i; higher = lowest (length l) (odd s l i) }

@@ -3,9 +3,7 @@
 
 #![tactic(auto)]
 
-ghost use Rattle.std.specs.Prelude.{◌≡◌, true, false, ◌+◌, ◌-◌, ◌≤◌, ◌<◌, length, IfSome};
-ghost use Rattle.std.specs.Option.{option_or};
-ghost use Rattle.std.specs.Bool.{then_some};
+ghost use Rattle.std.specs.Prelude.{◌≡◌, true, false, ◌+◌, ◌-◌, ◌≤◌, ◌<◌, length};
 ghost use Rattle.tools.specs.Tests.{any};
 ghost use Rattle.rules.specs.Setups.{setup_with};
 ghost use Rattle.rules.specs.Model;
@@ -18,7 +16,7 @@ ghost use Rattle.book.specs.Answers.{answer_to};
 ghost use Rattle.book.specs.Numbers.{tables_of};
 ghost use Rattle.refusals.specs.First.{list_number};
 ghost use Rattle.pictures.specs.Froms.{most_by, from_of, lag_to, beyond, more_to, Table, Ready};
-ghost use Rattle.pictures.specs.Pairs.{far, odd, odds_with, pairs_of, pairs};
+ghost use Rattle.pictures.specs.Pairs.{far, odd, pairs_of, pairs};
 
 use parts::BookBytes;
 use rules::{Odds, Refusal, SetupNumbers};
@@ -96,29 +94,6 @@ fn froms_of(book: &BookBytes, slots: &[usize]) -> [From; 8]
     froms
 }
 
-// The i-th desk, and the lowest that it is at odds with.
-fn odds_with(i: usize, odd: Option<usize>) -> Option<Odds>
-    requires i_small { i < 256 }
-    requires odd_small { IfSome odd (λ k. k < 256) }
-    ensures { result ≡ odds_with i odd }
-{
-    let k = odd?;
-    Some(Odds {
-        lower: i as u8,
-        higher: k as u8,
-    })
-}
-
-// The lowest that was found, or k where it is the first. A branch, and no select: at odds are few.
-fn first(lowest: Option<usize>, found: bool, k: usize) -> Option<usize>
-    ensures { result ≡ option_or lowest (then_some found k) }
-{
-    if found && lowest.is_none() {
-        return Some(k);
-    }
-    lowest
-}
-
 impl From {
     // Whether such a lag of another stamp's pair is out of reach.
     fn out_of_reach(self, lag: u8) -> bool
@@ -175,19 +150,22 @@ impl Listed<'_> {
         self.knows_more(i, k, there) || self.knows_more(k, i, back)
     }
 
-    // The i-th stamp and those after it: OutOfReach, or the lowest desk that it is at odds with.
+    // The i-th stamp and those after it: OutOfReach, or the lowest desk that it is at odds with. The last one first: the lowest is then the
+    // last to be found, and what was found before need not be asked, which is faster.
     fn pairs_of(&self, i: usize) -> Result<Option<usize>, Refusal>
         requires { i < length self.now.slots.now }
         ensures { result ≡ pairs_of self.now.book.now self.now.slots.now i }
     {
         let mut odd = None;
-        for k in i + 1..self.slots.len() {
+        for k in (i + 1..self.slots.len()).rev() {
             let there = self.lag_to(i, k);
             let back = self.lag_to(k, i);
             if self.too_far(i, k, there, back) {
                 return Err(Refusal::OutOfReach);
             }
-            odd = first(odd, self.at_odds(i, k, there, back), k);
+            if self.at_odds(i, k, there, back) {
+                odd = Some(k);
+            }
         }
         Ok(odd)
     }
@@ -197,9 +175,13 @@ impl Listed<'_> {
         ensures { result ≡ pairs self.now.book.now self.now.slots.now }
     {
         let mut found = None;
-        for i in 0..self.slots.len() {
-            let odd = self.pairs_of(i)?;
-            found = found.or(odds_with(i, odd));
+        for i in (0..self.slots.len()).rev() {
+            if let Some(k) = self.pairs_of(i)? {
+                found = Some(Odds {
+                    lower: i as u8,
+                    higher: k as u8,
+                });
+            }
         }
         Ok(found)
     }

@@ -1,36 +1,50 @@
+use Prim.Native.Nat.{ℕ, ◌+◌, ◌-◌}
+use mathlib.Core.Bool.{true, false}
 use mathlib.Core.Path.{◌≡◌, sym, ap, subst, ◌∙◌}
-use mathlib.Core.Bool.{false}
 use native.Mathlib.Omega.{arith}
 use borrow.Author.Rules.{rules}
 use lib.ListN.{length}
-use Rattle.std.proofs.Common.{Err}
-use Rattle.std.specs.Option.{option_or}
+use Rattle.std.proofs.Common.{Err, Some}
 use Rattle.tools.specs.Tests.{any}
-use Rattle.tools.proofs.Tests.{any_none, any_more}
 use Rattle.pictures.specs.Pairs as Pairs
-use Rattle.pictures.proofs.Judged.{found_none, found_more, odds_found, err_only, ok_only, is_far, is_near}
+use Rattle.pictures.proofs.Judged.{Near, First, near_last, near_more, first_last, first_more, some_found, none_found, err_only, ok_only, is_far}
 use Rattle.pictures.proofs.Listed.pairs.Goals as goal
 
 pub loop-i-init : goal.loop-i-init
 loop-i-init c =
-    let m = c.args in
-    let h = m.self.now in
-    let s = h.book.now in
-    let l = h.slots.now in
-    record {
-      near = any_none _;
-      found = sym (found_none (Pairs.odds s l) (λ i. any (length l) (Pairs.odd s l i)) 0 (λ i b. absurd (omega arith)));
-    }
+    let h = c.args.self.now in
+    record { near = near_last _ _; first = first_last (Pairs.odds h.book.now h.slots.now) _ _ }
 
-pub returns-in_err-odd : goal.returns-in_err-odd
-returns-in_err-odd c =
+pub returns-in_err-k : goal.returns-in_err-k
+returns-in_err-k c =
     let m = c.args in
     let h = m.self.now in
     let s = h.book.now in
     let l = h.slots.now in
-    let e : c.from_residual.result ≡ Err c.in_err-odd.field-0.0 = search rules in
-    let r = err_only _ _ _ c.in_err-odd.ensures in
-    e ∙ ap Err r.1 ∙ is_far _ (length l) (λ i. any (length l) (Pairs.far s l i)) c.loop-i.i c.loop-i-test.true r.0
+    let e : c.from_residual.result ≡ Err c.in_err-k.field-0.0 = search rules in
+    let r = err_only _ _ _ c.in_err-k.ensures in
+    e ∙ ap Err r.1 ∙ is_far _ (length l) (λ i. any (length l) (Pairs.far s l i)) (c.loop-i.i - 1) (omega arith) r.0
+
+pub loop-i-preserved-in-Some : goal.loop-i-preserved-in-Some
+loop-i-preserved-in-Some c =
+    let m = c.args in
+    let h = m.self.now in
+    let s = h.book.now in
+    let l = h.slots.now in
+    let n = length l in
+    let i = c.loop-i.i - 1 in
+    let v = c.loop-i.invariant in
+    let e : c.loop-i.i ≡ i + 1 = omega arith in
+    let far = λ (j : ℕ). any n (Pairs.far s l j) in
+    let odd = λ (j : ℕ). any n (Pairs.odd s l j) in
+    let r = ok_only _ _ _ c.in_ok-k.ensures in
+    let o = some_found n (Pairs.odd s l i) _ (sym c.in-Some.is ∙ r.1) in
+    record {
+      near = near_more far n i (subst (Near far n) e v.near) r.0;
+      first = λ g. ap (λ (k : ℕ). Some (record { lower = i; higher = k })) o.1
+          ∙ first_more (Pairs.odds s l) odd n i true c.loop-i.found (omega arith)
+          (subst (λ (k : ℕ). First (Pairs.odds s l) odd n k c.loop-i.found) e v.first) (sym o.0) g;
+    }
 
 pub loop-i-preserved : goal.loop-i-preserved
 loop-i-preserved c =
@@ -38,23 +52,16 @@ loop-i-preserved c =
     let h = m.self.now in
     let s = h.book.now in
     let l = h.slots.now in
-    let i = c.loop-i.i in
+    let n = length l in
+    let i = c.loop-i.i - 1 in
     let v = c.loop-i.invariant in
-    let r = ok_only _ _ _ c.in_ok-odd.ensures in
-    let o = c.odds_with.ensures ∙ odds_found (length l) (Pairs.odd s l i) i _ r.1 in
+    let e : c.loop-i.i ≡ i + 1 = omega arith in
+    let far = λ (j : ℕ). any n (Pairs.far s l j) in
+    let odd = λ (j : ℕ). any n (Pairs.odd s l j) in
+    let r = ok_only _ _ _ c.in_ok-k.ensures in
     record {
-      near = any_more (λ i. any (length l) (Pairs.far s l i)) i v.near r.0;
-      found = c.or-found.ensures ∙ (λ x. option_or (v.found x) (o x))
-          ∙ found_more (Pairs.odds s l) (λ i. any (length l) (Pairs.odd s l i)) i;
+      near = near_more far n i (subst (Near far n) e v.near) r.0;
+      first = first_more (Pairs.odds s l) odd n i false _ (omega arith)
+          (subst (λ (k : ℕ). First (Pairs.odds s l) odd n k c.loop-i.found) e v.first)
+          (sym (none_found n (Pairs.odd s l i) (λ k q. c.in_default.not-Some k (r.1 ∙ q))));
     }
-
-pub returns : goal.returns
-returns c =
-    let m = c.args in
-    let h = m.self.now in
-    let s = h.book.now in
-    let l = h.slots.now in
-    let n : c.loop-i.i ≡ length l = omega arith in
-    let v = c.loop-i.invariant in
-    is_near _ _ _ (subst (λ n. any n (λ i. any (length l) (Pairs.far s l i)) ≡ false) n v.near)
-    (v.found ∙ ap (λ n. Pairs.found n (λ i. any (length l) (Pairs.odd s l i)) (Pairs.odds s l)) n)
