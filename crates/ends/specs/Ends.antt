@@ -4,7 +4,11 @@
 --   failure_of k bad     what becomes of the run where a call fails for a reason of the kind k: one that is not ready (EAGAIN) and one
 --                        that a signal interrupts (EINTR) go on with no byte moved, as the call is made again, a broken pipe (EPIPE)
 --                        says that nobody reads any more, any other is `bad`
---   failure_went e bad   the same of the reason e
+--   kind_by n k          the kind of the system's number n, where there is one; else k
+--   reason_kind e        the kind of the reason e, by its number
+--   failure_went e bad   what becomes of the run where a call fails for the reason e
+--   number_went n bad    the same by the system's number: EAGAIN (11) and EINTR (4) go on, EPIPE (32) says that nobody reads any more,
+--                        any other is `bad`
 --   call_went r empty bad   how many bytes a call moves that answers r, or why the run stops: `empty` where it moves none, `bad e` where
 --                        it fails for a reason e of no kind above
 --   read_went r          the same of a read: no byte is the end of the input
@@ -18,12 +22,13 @@
 --   end_book w s         the book and papers at the end of a run that stopped for w, from the state s on: only the end of the input
 --                        answers a begun line
 --   word_of w            what the program says on standard error at its end, before the reason; no word where it is quiet
-use Rattle.std.specs.Prelude.{ℕ, zero, suc, ◌<◌, ◌≤◌, ◌-◌, ◌≡◌, List, [], length, take, Result, Ok, Err, Option, Some, None}
-use Rattle.std.specs.IoError.{error_kind}
+use Rattle.std.specs.Prelude.{ℕ, zero, suc, ◌<◌, ◌≤◌, ◌-◌, ◌≡◌, ◌||◌, List, [], length, take, ℤ, pos, negsuc, eqb, Result, Ok, Err, Option, Some, None}
+use Rattle.std.specs.IoError.{error_kind, raw_os_error, os_error_kind}
 use Rattle.std.specs.Io.KnownBytes.{Appends, Keeps}
 use Rattle.std.specs.declared.io.Error.{Error}
 use Rattle.std.specs.declared.io.ErrorKind.{ErrorKind}
 use Rattle.std.specs.declared.io.ErrorKind.TheVariants.{WouldBlock, Interrupted, BrokenPipe}
+use Rattle.tools.specs.Tests.{pick}
 use Rattle.text.specs.Words.{ascii}
 use Rattle.text.specs.Stream.{State, last_book}
 use Rattle.office.specs.Office.{Folder}
@@ -40,8 +45,19 @@ failure_of Interrupted bad = Ok 0
 failure_of BrokenPipe bad = Err Gone
 failure_of _ bad = Err bad
 
+abbrev pub kind_by : Option ℤ → ErrorKind → ErrorKind
+kind_by (Some n) k = os_error_kind n
+kind_by None k = k
+
+abbrev pub reason_kind : Error → ErrorKind
+reason_kind e = kind_by (raw_os_error e) (error_kind e)
+
 abbrev pub failure_went : Error → Stop → Result ℕ Stop
-failure_went e bad = failure_of (error_kind e) bad
+failure_went e bad = failure_of (reason_kind e) bad
+
+abbrev pub number_went : ℤ → Stop → Result ℕ Stop
+number_went (pos n) bad = pick (eqb n 11 || eqb n 4) (Ok 0) (pick (eqb n 32) (Err Gone) (Err bad))
+number_went (negsuc n) bad = Err bad
 
 abbrev pub call_went : Result ℕ Error → Stop → (Error → Stop) → Result ℕ Stop
 call_went (Ok zero) empty bad = Err empty

@@ -3,7 +3,7 @@
 #![tactic(auto)]
 
 ghost use Rattle.std.specs.Prelude.{◌≡◌};
-ghost use Rattle.ends.specs.Ends.{failure_went, read_went, write_went, word_of};
+ghost use Rattle.ends.specs.Ends.{reason_kind, failure_went, read_went, write_went, word_of};
 
 use std::io;
 use std::io::{Error, ErrorKind};
@@ -18,12 +18,22 @@ pub enum Stop {
     Unwritten(Option<Error>),
 }
 
+// The kind of a reason, by the system's number where it has one.
+fn reason_kind(e: Error) -> ErrorKind
+    ensures { result ≡ reason_kind e }
+{
+    match e.raw_os_error() {
+        Some(number) => Error::from_raw_os_error(number).kind(),
+        None => e.kind(),
+    }
+}
+
 // What becomes of the run where a call fails: it is made again, no byte moved, or the run stops. Other programs run while an end is
 // not ready.
 fn failure_went(e: Error, bad: Stop) -> Result<usize, Stop>
     ensures { result ≡ failure_went e bad }
 {
-    match e.kind() {
+    match reason_kind(e) {
         ErrorKind::WouldBlock => {
             std::thread::yield_now();
             Ok(0)
