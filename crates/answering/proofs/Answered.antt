@@ -2,7 +2,7 @@
 -- Assumes nothing.
 --   printable    an act is accepted only in a book of at most eight desks, whose pairs can be printed
 --   asked        a question is answered by the book alone, and leaves every byte of it and of the papers
---   Obeyed       what a line prints, and the book and the papers that it leaves
+--   Obeyed       what a line prints from a place on, and the book and the papers that it leaves
 --   obeyed       a line is obeyed by doing what it asks for and printing the answer, with the desks of the book
 --   printed      the same of a line that has a command
 --   blind        a line's answer goes by the bytes of it that are kept
@@ -57,6 +57,8 @@ use Rattle.office.proofs.Papers.{together_which, together_same, together_first}
 use Rattle.office.proofs.Office.{office_accepts, office_refused}
 use Rattle.text.proofs.Streams.{Blind}
 use Rattle.text.specs.Words.{ascii, opens}
+use Rattle.text.specs.Put.{Wrote}
+use Rattle.text.proofs.Writing.{same_text}
 use Rattle.commands.specs.declared.Command.{Command}
 use Rattle.commands.specs.Lines.{Wanted, makes, asks_may, shaped, miscounted, verbs, asks, choose, parse_of, wanted_by, wanted_in}
 use Rattle.commands.specs.Written.{numbers_of, text_of, Spoken, Small}
@@ -104,24 +106,25 @@ asked f q =
     go zero e = λ i. folder (sym e i) f.summary
     go (suc n) e = refl
 
-abbrev pub Obeyed : Folder → List ℕ → Folder → List ℕ → Type 0
-Obeyed f l f' o = (o ≡ line_text f l) × (f' ≡ line_folder f l)
+abbrev pub Obeyed : Folder → List ℕ → ℕ → List ℕ → Folder → List ℕ → ℕ → Type 0
+Obeyed f o at l f' o' r = Wrote o at (line_text f l) o' r × (f' ≡ line_folder f l)
 
--- what the line l asks for is w; what it prints is o
-module _ (f : Folder) (l : List ℕ) (w : Option Wanted) (p : w ≡ parse_of l) (f' : Folder) (o : List ℕ) (a : Answer) where
+-- what the line l asks for is w; what it prints is written into o from at on, which leaves o', and r is its end
+module _ (f : Folder) (o : List ℕ) (at : ℕ) (l : List ℕ) (w : Option Wanted) (p : w ≡ parse_of l)
+    (f' : Folder) (o' : List ℕ) (r : ℕ) (a : Answer) where
   pub obeyed : a ≡ answer_of f w → f' ≡ folder_of f w → (D : ℕ) → D ≡ byte f.book 2
-      → o ≡ answer_text D a → Obeyed f l f' o
+      → Wrote o at (answer_text D a) o' r → Obeyed f o at l f' o' r
   unfolding line_text line_folder
   obeyed x g D d e =
       let y : a ≡ answer_of f (parse_of l) = x ∙ ap (answer_of f) p in
-      (e ∙ (λ i. answer_text (d i) (y i)), g ∙ ap (folder_of f) p)
+      (same_text (λ i. answer_text (d i) (y i)) e, g ∙ ap (folder_of f) p)
 
 -- m, the command of the line l, is n
-module _ (f : Folder) (l : List ℕ) (r : Std.Option Command) (p : wanted_in r ≡ parse_of l) (m : Command) (s : r ≡ Some m)
-    (n : Command) (e : m ≡ n) (f' : Folder) (o : List ℕ) (a : Answer) where
+module _ (f : Folder) (o : List ℕ) (at : ℕ) (l : List ℕ) (c : Std.Option Command) (p : wanted_in c ≡ parse_of l) (m : Command)
+    (s : c ≡ Some m) (n : Command) (e : m ≡ n) (f' : Folder) (o' : List ℕ) (r : ℕ) (a : Answer) where
   pub printed : a ≡ answer_of f (some (wanted_by n)) → f' ≡ folder_of f (some (wanted_by n)) → (D : ℕ) → D ≡ byte f.book 2
-      → o ≡ answer_text D a → Obeyed f l f' o
-  printed = obeyed f l (some (wanted_by n)) (ap wanted_in (sym (s ∙ ap (λ (c : Command). Some c) e)) ∙ p) f' o a
+      → Wrote o at (answer_text D a) o' r → Obeyed f o at l f' o' r
+  printed = obeyed f o at l (some (wanted_by n)) (ap wanted_in (sym (s ∙ ap (λ (c : Command). Some c) e)) ∙ p) f' o' r a
 
 pub blind : Blind answering
 unfolding line_text line_folder

@@ -11,11 +11,12 @@
 --   unlike        a line of one verb's shape has not another's, whose word begins otherwise
 --   nothing_left  a line that is none of picture asks for nothing that is left behind start
 --   no_picture    a line of start is none of picture
+--   part_length, numbers_part  a part of a line is as long as is asked; its numbers stand there in the line
 --   one_more      the first numbers of a list, and the next
 --   sift          of all verbs, those decide whose word opens the line
 --   long_bad      a line over 64 bytes asks for nothing
 --   kept_enough   the bytes of a line that are kept tell as much as the whole
-use Prim.Native.Nat.{ℕ, ◌+◌, ◌*◌, ◌<◌, ◌≤◌}
+use Prim.Native.Nat.{ℕ, ◌+◌, ◌*◌, ◌/◌, ◌<◌, ◌≤◌}
 use mathlib.Core.Path.{◌≡◌, refl, sym, ap, ◌∙◌}
 use mathlib.Core.Bool.{Bool, true, false}
 use mathlib.Core.List.{List, [], ◌∷◌, ◌++◌}
@@ -24,21 +25,21 @@ use mathlib.Core.Logic.{⊎_elim}
 use native.Mathlib.Omega.{arith}
 use borrow.Author.Tests.{eqb-true, eqb-false, ne_eqb, le-leb, lt-leb}
 use lib.Dec.{eqb, ltb}
-use lib.ListN.{length, take, drop, length-append, get_or-append}
-use lib.Seq.{take_all, length-take-le, get_or-append_seam}
+use lib.ListN.{length, take, drop, length-append, length-drop, get_or-append}
+use lib.Seq.{take_all, length-take-le, get_or-take, get_or-drop, get_or-append_seam}
 use Rattle.std.specs.Prelude as Std
 use Rattle.std.specs.Prelude.{Some, None, option_map}
 use Rattle.tools.specs.Tests.{pick}
 use Rattle.tools.specs.Lists.{byte, tab}
 use Rattle.tools.proofs.Tests.{each, not_each, all_at, all_not, and_true, and_false, lt_or_le}
-use Rattle.tools.proofs.Lists.{length_tab, tab_at, is_tab}
+use Rattle.tools.proofs.Lists.{length_tab, tab_at, tab_same, is_tab}
 use Rattle.text.specs.Words.{ascii, opens}
 use Rattle.text.specs.Digits.{is_number, number_at, numbers_at}
 use Rattle.text.specs.Stream.{most}
 use Rattle.rules.specs.Model.{Act}
 use Rattle.rules.specs.Calls.{on}
 use Rattle.commands.specs.declared.Command.{Command}
-use Rattle.commands.specs.Lines.{shaped, count_after, makes, Verb, wish, lists, verbs, asks, choose, parse_of, wanted_by, wanted_in}
+use Rattle.commands.specs.Lines.{shaped, count_after, makes, Verb, wish, lists, verbs, asks, choose, parse_of, numbers_in, wanted_by, wanted_in}
 
 pub sized : (l w : List ℕ) (n : ℕ) → shaped l w n ≡ true → length l ≡ length w + 4 * n
 unfolding shaped
@@ -124,6 +125,26 @@ pub no_picture : (l : List ℕ) (n : ℕ) → shaped l (ascii "start") n ≡ tru
 no_picture l n h =
     let w = ascii "picture" in
     nothing_left l (unlike l (ascii "start") w n (count_after l w) (omega arith) (omega arith) (λ e. eqb-false 115 112 refl e) h)
+
+pub part_length : (l : List ℕ) (a n : ℕ) → a + n ≤ length l → length (take n (drop a l)) ≡ n
+part_length l a n h = length-take-le n (drop a l) (simp length-drop (omega arith))
+
+number_part : (l : List ℕ) (a n at : ℕ) → at + 4 ≤ n → number_at (take n (drop a l)) at ≡ number_at l (a + at)
+unfolding number_at
+number_part l a n at h = rw (number_at, there 1 (omega arith), there 2 (omega arith), there 3 (omega arith))
+  where
+    there : (i : ℕ) → i < 4 → byte (take n (drop a l)) (at + i) ≡ byte l (a + at + i)
+    there i q =
+        let e : a + (at + i) ≡ a + at + i = omega arith in
+        get_or-take n (drop a l) (at + i) 0 (omega arith) ∙ get_or-drop a l (at + i) 0 ∙ ap (byte l) e
+
+pub numbers_part : (l : List ℕ) (a n : ℕ) → a + n ≤ length l → numbers_in (take n (drop a l)) ≡ numbers_at l a (n / 4)
+numbers_part l a n h =
+    rw (part_length l a n h)
+    (tab_same (n / 4) (λ i. number_at (take n (drop a l)) (0 + 4 * i)) (λ i. number_at l (a + 4 * i))
+    (λ i q.
+    let e : a + (0 + 4 * i) ≡ a + 4 * i = omega arith in
+    number_part l a n (0 + 4 * i) (omega arith) ∙ ap (number_at l) e))
 
 -- a list of the first n numbers, and the next
 pub one_more : (f : ℕ → ℕ) (n : ℕ) (l : List ℕ) (x : ℕ) → l ≡ tab 0 n f → x ≡ f n → l ++ (x ∷ []) ≡ tab 0 (n + 1) f

@@ -19,6 +19,7 @@
 --   asks l v          the line asks for the verb v: it is its word, and as many numbers as it takes
 --   choose vs l       what the first verb that the line asks for makes of its numbers; none where it asks for none
 --   parse_of l        what a line asks for; none for a line over 64 bytes or of any other shape, a BadLine
+--   numbers_in l      the numbers of a part of a line that has nothing else
 --   wanted_by c       what a command asks for
 --   wanted_in o       the same, where there is a command
 use Rattle.std.specs.Prelude.{ℕ, ◌+◌, ◌*◌, ◌-◌, ◌/◌, Bool, true, not, ◌&&◌, List, [], ◌∷◌, ◌++◌, eqb, ltb, leb, length, take, drop, Some, None}
@@ -131,8 +132,11 @@ choose (v ∷ vs) l =
 unfoldable pub parse_of : List ℕ → Option Wanted
 parse_of l = pick (leb (length l) 64) (choose verbs l) none
 
+abbrev pub numbers_in : List ℕ → List ℕ
+numbers_in l = numbers_at l 0 (length l / 4)
+
 abbrev pub wanted_by : Command → Wanted
-wanted_by (Start s l) = makes (start (setup_with s l.items))
+wanted_by (Start s l) = makes (start (setup_with s (numbers_in l.text.now)))
 wanted_by (Local d q) = makes (on (Model.local d q))
 wanted_by (Send d k q) = makes (on (Model.send d k q))
 wanted_by (Receive d p q) = makes (on (Model.receive d p q))
@@ -142,7 +146,7 @@ wanted_by (Discard p) = makes (on (Model.discard p))
 wanted_by (Before s t) = makes (on (Model.before s t))
 wanted_by (Compare s t) = makes (on (Model.compare s t))
 wanted_by (May d) = asks_may d
-wanted_by (Picture l) = makes (on (Model.picture l.items))
+wanted_by (Picture l) = makes (on (Model.picture (numbers_in l.text.now)))
 
 abbrev pub wanted_in : Std.Option Command → Option Wanted
 wanted_in None = none

@@ -7,18 +7,18 @@ ghost use Rattle.std.proofs.Math.Option.{none};
 ghost use Rattle.tools.specs.Tests.{pick, within};
 ghost use Rattle.text.specs.Digits.{numbers_at};
 ghost use Rattle.commands.specs.Lines.{shaped, count_after, events, filings, questions, lists, start_of};
-ghost use Rattle.commands.specs.Lines.{choose, parse_of, wanted_in};
+ghost use Rattle.commands.specs.Lines.{choose, parse_of, numbers_in, wanted_in};
 
-use arrayvec::ArrayVec;
+// The numbers that a line lends.
+mod lent;
+
+pub use lent::Numbers;
 use rules::SetupNumbers;
 
-// The limits of a start, the slots of a picture: no more than 14 numbers stand in 64 bytes.
-pub type Numbers = ArrayVec<usize, 14>;
-
 // What a line asks for, an event last with whether its stamp is kept. The numbers are wide, so that 256 reaches the check that refuses it.
-#[derive(Drop)]
-pub enum Command {
-    Start(SetupNumbers, Numbers),
+#[derive(Clone, Copy)]
+pub enum Command<'a> {
+    Start(SetupNumbers, Numbers<'a>),
     Local(usize, bool),
     Send(usize, usize, bool),
     Receive(usize, usize, bool),
@@ -28,7 +28,7 @@ pub enum Command {
     Before(usize, usize),
     Compare(usize, usize),
     May(usize),
-    Picture(Numbers),
+    Picture(Numbers<'a>),
 }
 
 // Whether a line is a word and then so many numbers.
@@ -58,22 +58,19 @@ fn numbers<const N: usize>(line: &[u8], word: &[u8]) -> Option<[usize; N]>
     Some(list)
 }
 
-// The numbers of a line that is a word and then numbers, however many: no more than 14, as the word has five letters.
-fn all_numbers(line: &[u8], word: &[u8]) -> Option<Numbers>
+// The numbers that stand in a line after a word, however many, where it has nothing else: no more than 14, as the word has five letters.
+fn all_numbers<'a>(line: &'a [u8], word: &[u8]) -> Option<Numbers<'a>>
     requires { (length line.now ≤ 64) × (5 ≤ length word.now) }
     ensures { MatchOption result (shaped line.now word.now (count_after line.now word.now) ≡ false)
         (λ ns. (shaped line.now word.now (count_after line.now word.now) ≡ true)
-        × (ns.items ≡ numbers_at line.now (length word.now) (count_after line.now word.now))) }
+        × (numbers_in ns.text.now ≡ numbers_at line.now (length word.now) (count_after line.now word.now))) }
 {
     let count = line.len().saturating_sub(word.len()) / 4;
     if !is_line(line, word, count) {
         return None;
     }
-    let mut list = Numbers::new();
-    for i in 0..count {
-        list.push(text::number(line, word.len() + 4 * i));
-    }
-    Some(list)
+    let text = &line[word.len()..];
+    Some(Numbers { text })
 }
 
 // Whether D is from 2 to 8 and there are other than D limits.
@@ -83,43 +80,44 @@ fn is_miscounted(desks: usize, limits: usize) -> bool
     (2..=8).contains(&desks) & (limits != desks)
 }
 
-// The start of a line's numbers: D and P are the first two, M, A, m and n the last four, the limits stand between them. None where
-// there are fewer than six, or where the limits are miscounted.
-fn start_of(given: &[usize]) -> Option<Command>
-    requires { length given.now ≤ 14 }
-    ensures { wanted_in result ≡ pick (leb 6 (length given.now)) (start_of given.now) none }
+// The start of a line's numbers: D and P are the first two, M, A, m and n the last four, the limits stand between them and stay in the
+// line. None where there are fewer than six, or where the limits are miscounted.
+fn start_of(given: Numbers<'_>) -> Option<Command<'_>>
+    ensures { let ns = numbers_in given.entry.text.now in
+        wanted_in result ≡ pick (leb 6 (length ns)) (start_of ns) none }
 {
-    let [desks, phases, limits @ .., seat_lag, shelf_lag, back, ahead] = given else {
-        return None;
+    let all = given.text;
+    let limits = (all.len() / 4).checked_sub(6)?;
+    let last = 8 + 4 * limits;
+    let numbers = SetupNumbers {
+        desks: text::number(all, 0),
+        phases: text::number(all, 4),
+        seat_lag: text::number(all, last),
+        shelf_lag: text::number(all, last + 4),
+        back: text::number(all, last + 8),
+        ahead: text::number(all, last + 12),
     };
-    if is_miscounted(*desks, limits.len()) {
+    if is_miscounted(numbers.desks, limits) {
         return None;
     }
-    let numbers = SetupNumbers {
-        desks: *desks,
-        phases: *phases,
-        seat_lag: *seat_lag,
-        shelf_lag: *shelf_lag,
-        back: *back,
-        ahead: *ahead,
-    };
-    Some(Command::Start(numbers, Numbers::try_from(limits).unwrap()))
+    let text = &all[8..last];
+    Some(Command::Start(numbers, Numbers { text }))
 }
 
 // A row of the definition's table is one test here, in the table's order; a line that a group does not know is left to the next. The
 // verbs that take any number of numbers come last.
-fn parse_lists(line: &[u8]) -> Option<Command>
+fn parse_lists(line: &[u8]) -> Option<Command<'_>>
     requires { length line.now ≤ 64 }
     ensures { wanted_in result ≡ choose lists line.now }
 {
     if let Some(numbers) = all_numbers(line, b"start") {
-        return start_of(numbers.as_slice());
+        return start_of(numbers);
     }
     Some(Command::Picture(all_numbers(line, b"picture")?))
 }
 
 // The questions about two slots and may, then the lists.
-fn parse_questions(line: &[u8]) -> Option<Command>
+fn parse_questions(line: &[u8]) -> Option<Command<'_>>
     requires { length line.now ≤ 64 }
     ensures { wanted_in result ≡ choose (questions ++ lists) line.now }
 {
@@ -139,7 +137,7 @@ fn parse_questions(line: &[u8]) -> Option<Command>
 }
 
 // The filings, then the questions.
-fn parse_filings(line: &[u8]) -> Option<Command>
+fn parse_filings(line: &[u8]) -> Option<Command<'_>>
     requires { length line.now ≤ 64 }
     ensures { wanted_in result ≡ choose (filings ++ questions ++ lists) line.now }
 {
@@ -166,7 +164,7 @@ fn wished(keep: usize) -> Option<bool>
 }
 
 // The four events, then the filings.
-fn parse_events(line: &[u8]) -> Option<Command>
+fn parse_events(line: &[u8]) -> Option<Command<'_>>
     requires { length line.now ≤ 64 }
     ensures { wanted_in result ≡ choose (events ++ filings ++ questions ++ lists) line.now }
 {
@@ -191,7 +189,7 @@ fn parse_events(line: &[u8]) -> Option<Command>
 
 // The command of a line; none of a BadLine: one over 64 bytes, or of any other shape.
 #[tactic(auto, using(crate::proofs::Shapes::long_bad))]
-pub fn parse(line: &[u8]) -> Option<Command>
+pub fn parse(line: &[u8]) -> Option<Command<'_>>
     ensures { wanted_in result ≡ parse_of line.now }
 {
     if text::LINE_MOST < line.len() {

@@ -2,16 +2,15 @@
 
 #![tactic(auto)]
 
-ghost use Rattle.std.specs.Prelude.{◌≡◌, ℕ, ◌≤◌, length, take, Ok, Err};
+ghost use Rattle.std.specs.Prelude.{◌≡◌, ℕ, length, take, Ok, Err};
 ghost use Rattle.std.specs.Io.{ReadsAtMost};
-ghost use Rattle.text.specs.Stream.{most, held, last_text, last_book};
+ghost use Rattle.text.specs.Stream.{held, line_of, last_text, last_book};
 ghost use Rattle.office.specs.Office.{folder};
 ghost use Rattle.answering.specs.Answering.{answering};
 ghost use Rattle.listing.specs.Feeding.{fed_text, Feeds};
 ghost use Rattle.ends.specs.declared.Stop.TheVariants.{Ended};
 ghost use Rattle.ends.specs.Ends.{read_went, outcome, moved, Writes, Goes, end_book};
 
-use arrayvec::ArrayVec;
 use ends::Stop;
 use std::io;
 use std::io::{Error, Read, Write};
@@ -24,9 +23,6 @@ const TURNS: u64 = u64::MAX;
 
 // How many bytes a read asks for, and a page has room for.
 const SPACE: usize = 4096;
-
-// What lines print, until it is written out.
-type Page = ArrayVec<u8, SPACE>;
 
 // The status of a program that SIGPIPE (13) has ended, as a shell tells it. The runtime ignores that signal, so a write fails instead.
 const READER_GONE: u8 = 141;
@@ -56,19 +52,19 @@ fn answer_piece<W: Write>(
     pending: &mut Pending,
     piece: &[u8],
 ) -> Result<(), Stop>
-    requires { length pending.old.items ≤ most }
     ensures { (used : ℕ)
-        × Feeds (held (folder book.old summary.old) pending.old.items) piece.now used (folder book.new summary.new) pending.new.items
+        × Feeds (held (folder book.old summary.old) (line_of pending.old)) piece.now used (folder book.new summary.new) (line_of pending.new)
         × Writes (W.contents output.old) (W.contents output.new)
-        (fed_text (held (folder book.old summary.old) pending.old.items) piece.now used) result
+        (fed_text (held (folder book.old summary.old) (line_of pending.old)) piece.now used) result
         × (result ≡ Ok tt → used ≡ length piece.now) }
 {
-    let mut page = Page::new();
+    let mut page = [0; SPACE];
     let mut at = 0;
     // A while: a turn takes in as many bytes as there is room for.
     while at < piece.len() {
-        at += listing::feed(book, summary, &mut page, pending, &piece[at..]);
-        write_out(output, page.as_slice())?;
+        let fed = listing::feed(book, summary, &mut page, pending, &piece[at..]);
+        at += fed.used;
+        write_out(output, &page[..fed.end])?;
     }
     Ok(())
 }
@@ -82,12 +78,12 @@ fn take_turn<W: Write>(
     space: &[u8],
     done: io::Result<usize>,
 ) -> Result<(), Stop>
-    requires { (length pending.old.items ≤ most) × ReadsAtMost done space.now }
+    requires { ReadsAtMost done space.now }
     ensures { (used : ℕ)
-        × Feeds (held (folder book.old summary.old) pending.old.items)
-        (take (moved (read_went done)) space.now) used (folder book.new summary.new) pending.new.items
+        × Feeds (held (folder book.old summary.old) (line_of pending.old))
+        (take (moved (read_went done)) space.now) used (folder book.new summary.new) (line_of pending.new)
         × Goes (Ok tt) (outcome (read_went done)) result
-        (fed_text (held (folder book.old summary.old) pending.old.items) (take (moved (read_went done)) space.now) used)
+        (fed_text (held (folder book.old summary.old) (line_of pending.old)) (take (moved (read_went done)) space.now) used)
         (W.contents output.old) (W.contents output.new)
         × (result ≡ Ok tt → used ≡ moved (read_went done)) }
 {
@@ -102,13 +98,13 @@ fn last_turn<W: Write>(
     summary: &mut [u8],
     pending: &Pending,
 ) -> Result<(), Stop>
-    ensures { (folder book.new summary.new ≡ last_book answering (held (folder book.old summary.old) pending.now.items))
+    ensures { (folder book.new summary.new ≡ last_book answering (held (folder book.old summary.old) (line_of pending.now)))
         × Writes (W.contents output.old) (W.contents output.new)
-        (last_text answering (held (folder book.old summary.old) pending.now.items)) result }
+        (last_text answering (held (folder book.old summary.old) (line_of pending.now))) result }
 {
-    let mut page = Page::new();
-    listing::finish(book, summary, &mut page, pending);
-    write_out(output, page.as_slice())
+    let mut line = [0; replies::LONGEST];
+    let end = listing::finish(book, summary, &mut line, pending);
+    write_out(output, &line[..end])
 }
 
 // How the run ends: where the input has ended, after its last line.
@@ -119,9 +115,9 @@ fn ending<W: Write>(
     pending: &Pending,
     stop: Stop,
 ) -> Result<(), Stop>
-    ensures { (folder book.new summary.new ≡ end_book stop (held (folder book.old summary.old) pending.now.items))
+    ensures { (folder book.new summary.new ≡ end_book stop (held (folder book.old summary.old) (line_of pending.now)))
         × Goes (Err Ended) (Err stop) result
-        (last_text answering (held (folder book.old summary.old) pending.now.items))
+        (last_text answering (held (folder book.old summary.old) (line_of pending.now)))
         (W.contents output.old) (W.contents output.new) }
 {
     let Stop::Ended = stop else {

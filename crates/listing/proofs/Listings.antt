@@ -2,14 +2,13 @@
 -- Assumes nothing.
 --   any_pieces   however the input is cut into pieces, the listing prints the same
 --   kept_few     no more of a begun line is kept than may be
---   more         a text behind a text that is behind another
 --   feeds_one    what a piece leaves goes by how many of its bytes are taken in
 --   feeds_none   no byte of a piece is taken in
 --   feeds_on     a piece is taken in up to a place, and then from there on
 --   text_on      what that prints
 use Prim.Native.Nat.{ℕ, ◌+◌, ◌≤◌}
 use mathlib.Core.Path.{◌≡◌, sym, ap, ◌∙◌}
-use mathlib.Core.List.{List, ◌++◌, append_assoc, flatten}
+use mathlib.Core.List.{List, ◌++◌, flatten}
 use native.Mathlib.Omega.{arith}
 use lib.ListN.{take, drop, length, length-take, length-drop}
 use lib.Seq.{take-add, take_all}
@@ -25,9 +24,6 @@ any_pieces b ps = any_cut answering blind b ps
 
 pub kept_few : (p l : List ℕ) → p ≡ take most l → length p ≤ most
 kept_few p l e = rw e (simp length-take (omega arith))
-
-pub more : (a b c d e : List ℕ) → e ≡ d ++ c → d ≡ a ++ b → e ≡ a ++ (b ++ c)
-more a b c d e p q = p ∙ ap (λ (t : List ℕ). t ++ c) q ∙ append_assoc a b c
 
 pub feeds_one
     : (s : State Folder) (xs : List ℕ) (n : ℕ) (b b' : Folder) (p p' : List ℕ)

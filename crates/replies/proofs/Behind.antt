@@ -1,14 +1,17 @@
--- A text and what stands behind it.
+-- A text and what stands behind it, if something does.
 -- Assumes nothing.
---   long      how long a line is with a text written
---   behind    a text is written, and then another: both are
-use Prim.Native.Nat.{ℕ, ◌+◌}
-use mathlib.Core.List.{List, ◌++◌, append_assoc}
-use mathlib.Core.Path.{◌≡◌, ap, ◌∙◌}
-use lib.ListN.{length, length-append}
+--   behind   a text is written, and then f of what o holds: both are
+use mathlib.Core.List.{List, [], append-nil}
+use mathlib.Core.Option.{Option, none, some}
+use Prim.Native.Nat.{ℕ}
+use Rattle.text.specs.Put.{Wrote}
+use Rattle.text.proofs.Writing as Writing
+use Rattle.replies.specs.Print.{then}
 
-pub long : {p : List ℕ} (xs s : List ℕ) → p ≡ xs ++ s → length p ≡ length xs + length s
-long xs s e = ap length e ∙ length-append xs s
-
-pub behind : {p q : List ℕ} (xs s t : List ℕ) → p ≡ xs ++ s → q ≡ p ++ t → q ≡ xs ++ (s ++ t)
-behind xs s t e f = f ∙ rw e (append_assoc xs s t)
+pub behind
+    : {A : Type 0} {xs ys zs s : List ℕ} {at n m : ℕ} (f : A → List ℕ) (o : Option A)
+    → Wrote xs at s ys n
+    → Wrote ys n (then [] f o) zs m
+    → Wrote xs at (then s f o) zs m
+behind {s = s} f none a b = rw (append-nil s) at (Writing.then a b)
+behind f (some v) a b = Writing.then a b

@@ -1,22 +1,21 @@
-// Answers as lines of text.
+// Answers as lines of text, each written into a lent buffer from a place on.
 
 #![tactic(auto)]
 
-ghost use Rattle.std.specs.Prelude.{◌≡◌, ℕ, ◌+◌, ◌≤◌, [], ◌∷◌, ◌++◌, length};
-ghost use Rattle.text.specs.Put.{three, field};
-ghost use Rattle.rules.specs.Model.{Value, accepted, says, relates};
-ghost use Rattle.rules.specs.Replies.{answer_by, number_in, row_of, slot_in, event};
+ghost use Rattle.std.specs.Prelude.{ℕ, ◌≡◌, ◌+◌, ◌≤◌, [], ◌∷◌, ◌++◌, length};
+ghost use Rattle.text.specs.Put.{Wrote, three, field};
+ghost use Rattle.rules.specs.Model.{Value, accepted, refusal, says, relates, names};
+ghost use Rattle.rules.specs.Replies.{answer_by, number_in, row_of, slot_in};
 ghost use Rattle.rules.specs.Replies.{done_value, stamped_value, received_value, sent_value, odds_value, reset_value};
-ghost use Rattle.replies.specs.Print.{pair, stamp_text, then, answer_text};
+ghost use Rattle.replies.specs.Print.{pair, stamp_text, then, answer_text, longest};
 
-use arrayvec::ArrayVec;
 use rules::{Odds, Received, Refusal, Relation, Sent, Stamp, Stamped};
 
 // The bytes of the longest line.
 pub const LONGEST: usize = 80;
 
-// A line of text.
-pub type Line = ArrayVec<u8, LONGEST>;
+// The number of an answer that is done.
+const DONE: u8 = 0;
 
 // What an accepted call gives, and the line that tells it.
 pub trait Reply {
@@ -26,97 +25,91 @@ pub trait Reply {
     // Of how many desks its line can tell.
     ghost printable: { ℕ → Type 0 };
 
-    // Its line, in a book of so many desks.
-    fn line(self, desks: u8) -> Line
-        requires { printable desks }
-        ensures { result.items ≡ answer_text desks (accepted (value self)) };
+    // How many bytes its line takes at most.
+    ghost room: { ℕ };
+
+    // Its line is written, in a book of so many desks; the answer is the place after it.
+    fn put(self, out: &mut [u8], at: usize, desks: u8) -> usize
+        requires room { at + room ≤ length out.old }
+        requires printable { printable desks }
+        ensures { Wrote out.old at (answer_text desks (accepted (value self))) out.new result };
 }
 
 // A space and a number.
-fn put_field(line: &mut Line, n: u8)
-    requires { length line.old.items + 4 ≤ LONGEST }
-    ensures { line.new.items ≡ line.old.items ++ field n }
+fn put_field(out: &mut [u8], at: usize, n: u8) -> usize
+    requires { at + 4 ≤ length out.old }
+    ensures { Wrote out.old at (field n) out.new result }
 {
-    text::put_byte(line, b' ');
-    text::put_three(line, n);
+    let a = text::put_byte(out, at, b' ');
+    text::put_three(out, a, n)
 }
 
 // A space and a pair.
-fn put_pair(line: &mut Line, phase: u8, clock: u8)
-    requires { length line.old.items + 8 ≤ LONGEST }
-    ensures { line.new.items ≡ line.old.items ++ pair phase clock }
+fn put_pair(out: &mut [u8], at: usize, phase: u8, clock: u8) -> usize
+    requires { at + 8 ≤ length out.old }
+    ensures { Wrote out.old at (pair phase clock) out.new result }
 {
-    put_field(line, phase);
-    text::put_byte(line, b'.');
-    text::put_three(line, clock);
+    let a = put_field(out, at, phase);
+    let b = text::put_byte(out, a, b'.');
+    text::put_three(out, b, clock)
 }
 
 // The owner of a stamp, and the pairs of the first desks of its row.
-fn put_stamp(line: &mut Line, desks: u8, stamp: Stamp)
-    requires { (desks ≤ 8) × (length line.old.items + length (stamp_text desks stamp.owner (row_of stamp.row)) ≤ LONGEST) }
-    ensures { line.new.items ≡ line.old.items ++ stamp_text desks stamp.owner (row_of stamp.row) }
+fn put_stamp(out: &mut [u8], at: usize, desks: u8, stamp: Stamp) -> usize
+    requires { (desks ≤ 8) × (at + 68 ≤ length out.old) }
+    ensures { Wrote out.old at (stamp_text desks stamp.owner (row_of stamp.row)) out.new result }
 {
-    put_field(line, stamp.owner);
+    let mut a = put_field(out, at, stamp.owner);
     for j in 0..usize::from(desks) {
-        put_pair(
-            line,
+        a = put_pair(
+            out,
+            a,
             stamp.row[parts::phase_spot(j)],
             stamp.row[parts::clock_spot(j)],
         );
     }
+    a
 }
 
-// A space and a number, where there is one.
-fn put_some(line: &mut Line, n: Option<u8>)
-    requires { length (then line.old.items field (slot_in n)) ≤ LONGEST }
-    ensures { line.new.items ≡ then line.old.items field (slot_in n) }
+// The slot of an event that is kept; nothing where it is not.
+fn put_slot(out: &mut [u8], at: usize, slot: Option<u8>) -> usize
+    requires { at + 4 ≤ length out.old }
+    ensures { Wrote out.old at (then [] field (slot_in slot)) out.new result }
 {
-    if let Some(n) = n {
-        put_field(line, n);
+    match slot {
+        None => at,
+        Some(n) => put_field(out, at, n),
     }
 }
 
-// The line of an event: its place, its stamp, the number of desks learnt of and its slot, where it has them.
-fn event_line(
-    desks: u8,
-    place: Option<u8>,
-    stamp: Stamp,
-    learnt: Option<u8>,
-    slot: Option<u8>,
-) -> Line
-    requires desks { desks ≤ 8 }
-    requires room { length (answer_text desks (accepted (event (slot_in place) stamp (slot_in learnt) slot))) ≤ LONGEST }
-    ensures { result.items ≡ answer_text desks (accepted (event (slot_in place) stamp (slot_in learnt) slot)) }
+// The line of an answer that is a number alone: a refusal, or done.
+pub fn put_number(out: &mut [u8], at: usize, n: u8) -> usize
+    requires { at + 4 ≤ length out.old }
+    ensures { (D : ℕ) → Wrote out.old at (answer_text D (refusal n)) out.new result }
 {
-    let mut line = Line::new();
-    text::put_text(&mut line, b"000");
-    put_some(&mut line, place);
-    put_stamp(&mut line, desks, stamp);
-    put_some(&mut line, learnt);
-    put_some(&mut line, slot);
-    text::put_byte(&mut line, b'\n');
-    line
+    let a = text::put_three(out, at, n);
+    text::put_byte(out, a, b'\n')
+}
+
+// The line of two desks at odds.
+fn put_odds(out: &mut [u8], at: usize, lower: u8, higher: u8) -> usize
+    requires { at + 12 ≤ length out.old }
+    ensures { (D : ℕ) → Wrote out.old at (answer_text D (accepted (names lower higher))) out.new result }
+{
+    let a = text::put_three(out, at, DONE);
+    let b = put_field(out, a, lower);
+    let c = put_field(out, b, higher);
+    text::put_byte(out, c, b'\n')
 }
 
 // The line of a reset that would be refused with a number.
-fn foretold_line(number: u8) -> Line
-    ensures { result.items ≡ three 0 ++ field number ++ 10 ∷ [] }
+fn put_foretold(out: &mut [u8], at: usize, number: u8) -> usize
+    requires { at + 8 ≤ length out.old }
+    ensures { Wrote out.old at (three 0 ++ field number ++ 10 ∷ []) out.new result }
 {
-    let mut line = Line::new();
-    text::put_text(&mut line, b"000");
-    put_field(&mut line, number);
-    text::put_byte(&mut line, b'\n');
-    line
-}
-
-// The line of a refusal: its number.
-fn refusal_line(number: u8) -> Line
-    ensures { result.items ≡ three number ++ 10 ∷ [] }
-{
-    let mut line = Line::new();
-    text::put_three(&mut line, number);
-    text::put_byte(&mut line, b'\n');
-    line
+    let a = text::put_three(out, at, DONE);
+    let b = put_field(out, a, number);
+    text::put_byte(out, b, b'\n')
 }
 
 // Of a call that gives nothing: the number alone.
@@ -125,10 +118,10 @@ impl Reply for () {
 
     ghost printable = { λ n. Unit {0} };
 
-    fn line(self, desks: u8) -> Line {
-        let mut line = Line::new();
-        text::put_text(&mut line, b"000\n");
-        line
+    ghost room = { 4 };
+
+    fn put(self, out: &mut [u8], at: usize, desks: u8) -> usize {
+        put_number(out, at, DONE)
     }
 }
 
@@ -138,9 +131,14 @@ impl Reply for Stamped {
 
     ghost printable = { λ n. n ≤ 8 };
 
-    #[tactic(auto, using(crate::proofs::Lengths::stamped_fits))]
-    fn line(self, desks: u8) -> Line {
-        event_line(desks, None, self.stamp, None, self.slot)
+    ghost room = { longest };
+
+    fn put(self, out: &mut [u8], at: usize, desks: u8) -> usize {
+        let Stamped { stamp, slot } = self;
+        let a = text::put_three(out, at, DONE);
+        let b = put_stamp(out, a, desks, stamp);
+        let c = put_slot(out, b, slot);
+        text::put_byte(out, c, b'\n')
     }
 }
 
@@ -150,9 +148,19 @@ impl Reply for Received {
 
     ghost printable = { λ n. n ≤ 8 };
 
-    #[tactic(auto, using(crate::proofs::Lengths::received_fits))]
-    fn line(self, desks: u8) -> Line {
-        event_line(desks, None, self.stamp, Some(self.learnt), self.slot)
+    ghost room = { longest };
+
+    fn put(self, out: &mut [u8], at: usize, desks: u8) -> usize {
+        let Received {
+            stamp,
+            learnt,
+            slot,
+        } = self;
+        let a = text::put_three(out, at, DONE);
+        let b = put_stamp(out, a, desks, stamp);
+        let c = put_field(out, b, learnt);
+        let d = put_slot(out, c, slot);
+        text::put_byte(out, d, b'\n')
     }
 }
 
@@ -162,8 +170,15 @@ impl Reply for Sent {
 
     ghost printable = { λ n. n ≤ 8 };
 
-    fn line(self, desks: u8) -> Line {
-        event_line(desks, Some(self.place), self.stamp, None, self.slot)
+    ghost room = { longest };
+
+    fn put(self, out: &mut [u8], at: usize, desks: u8) -> usize {
+        let Sent { place, stamp, slot } = self;
+        let a = text::put_three(out, at, DONE);
+        let b = put_field(out, a, place);
+        let c = put_stamp(out, b, desks, stamp);
+        let d = put_slot(out, c, slot);
+        text::put_byte(out, d, b'\n')
     }
 }
 
@@ -173,14 +188,14 @@ impl Reply for bool {
 
     ghost printable = { λ n. Unit {0} };
 
-    fn line(self, desks: u8) -> Line {
-        let mut line = Line::new();
+    ghost room = { 8 };
+
+    fn put(self, out: &mut [u8], at: usize, desks: u8) -> usize {
         if self {
-            text::put_text(&mut line, b"000 yes\n");
+            text::put_text(out, at, b"000 yes\n")
         } else {
-            text::put_text(&mut line, b"000 no\n");
+            text::put_text(out, at, b"000 no\n")
         }
-        line
     }
 }
 
@@ -190,17 +205,16 @@ impl Reply for Relation {
 
     ghost printable = { λ n. Unit {0} };
 
-    fn line(self, desks: u8) -> Line {
-        let text: &[u8] = match self {
-            Relation::Before => b"000 before\n",
-            Relation::After => b"000 after\n",
-            Relation::Same => b"000 same\n",
-            Relation::Concurrent => b"000 concurrent\n",
-            Relation::Crossed => b"000 crossed\n",
-        };
-        let mut line = Line::new();
-        text::put_text(&mut line, text);
-        line
+    ghost room = { 15 };
+
+    fn put(self, out: &mut [u8], at: usize, desks: u8) -> usize {
+        match self {
+            Relation::Before => text::put_text(out, at, b"000 before\n"),
+            Relation::After => text::put_text(out, at, b"000 after\n"),
+            Relation::Same => text::put_text(out, at, b"000 same\n"),
+            Relation::Concurrent => text::put_text(out, at, b"000 concurrent\n"),
+            Relation::Crossed => text::put_text(out, at, b"000 crossed\n"),
+        }
     }
 }
 
@@ -210,18 +224,13 @@ impl Reply for Option<Odds> {
 
     ghost printable = { λ n. Unit {0} };
 
-    fn line(self, desks: u8) -> Line {
-        match self {
-            None => true.line(desks),
-            Some(Odds { lower, higher }) => {
-                let mut line = Line::new();
-                text::put_text(&mut line, b"000");
-                put_field(&mut line, lower);
-                put_field(&mut line, higher);
-                text::put_byte(&mut line, b'\n');
-                line
-            }
-        }
+    ghost room = { 12 };
+
+    fn put(self, out: &mut [u8], at: usize, desks: u8) -> usize {
+        let Some(Odds { lower, higher }) = self else {
+            return true.put(out, at, desks);
+        };
+        put_odds(out, at, lower, higher)
     }
 }
 
@@ -231,21 +240,29 @@ impl Reply for Option<Refusal> {
 
     ghost printable = { λ n. Unit {0} };
 
-    fn line(self, desks: u8) -> Line {
+    ghost room = { 8 };
+
+    fn put(self, out: &mut [u8], at: usize, desks: u8) -> usize {
         match self {
-            None => true.line(desks),
-            Some(refusal) => foretold_line(refusal.number()),
+            None => true.put(out, at, desks),
+            Some(refusal) => put_foretold(out, at, refusal.number()),
         }
     }
 }
 
 // The line of an answer, in a book of so many desks.
-pub fn line_of<T: Reply + Drop>(desks: u8, answer: Result<T, Refusal>) -> Line
-    requires { number_in answer ≡ 0 → T.printable desks }
-    ensures { result.items ≡ answer_text desks (answer_by T.value answer) }
+pub fn put_answer<T: Reply + Drop>(
+    out: &mut [u8],
+    at: usize,
+    desks: u8,
+    answer: Result<T, Refusal>,
+) -> usize
+    requires room { (at + 4 ≤ length out.old) × (at + T.room ≤ length out.old) }
+    requires printable { number_in answer ≡ 0 → T.printable desks }
+    ensures { Wrote out.old at (answer_text desks (answer_by T.value answer)) out.new result }
 {
     match answer {
-        Ok(value) => value.line(desks),
-        Err(refusal) => refusal_line(refusal.number()),
+        Ok(value) => value.put(out, at, desks),
+        Err(refusal) => put_number(out, at, refusal.number()),
     }
 }

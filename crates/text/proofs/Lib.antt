@@ -1,3 +1,4 @@
--- Laws of numbers in texts and of streams.
+-- Laws of numbers in texts, of writing and of streams.
 pub mod Numerals
+pub mod Writing
 pub mod Streams

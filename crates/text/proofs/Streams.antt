@@ -1,5 +1,6 @@
 -- The laws of streams.
 -- Assumes nothing.
+--   line_few                   no more of a line that has begun is kept than may be
 --   part_none, part_more, take_part   the bytes from one place to another
 --   flat_more                  one byte more that is no newline
 --   line_ends                  the first newline from a place on, as a search from there finds it
@@ -40,9 +41,14 @@ use Rattle.text.specs.Stream.{
   after,
   text_of,
   last_text,
+  line_of,
   printed,
   runs,
 }
+use Rattle.text.specs.declared.begun.Pending.{Pending}
+
+pub line_few : (p : Pending) → length (line_of p) ≤ most
+line_few p = simp length-take (omega (arith, p.few))
 
 pub part_none : (a : ℕ) (l : List ℕ) → part a a l ≡ []
 part_none a l =

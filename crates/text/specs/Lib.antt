@@ -1,4 +1,4 @@
--- Texts as bytes, numbers in them and as text, and what a stream of lines prints.
+-- Texts as bytes, numbers in them, texts written into a buffer, and what a stream of lines prints.
 pub mod Words
 pub mod Digits
 pub mod Put

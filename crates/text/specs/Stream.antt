@@ -14,9 +14,11 @@
 --   most              the bytes kept of a line that has begun: one more than a line may have
 --   cut s             the state s, with no more than these kept
 --   runs s ps         all that is printed where the input comes in the pieces ps, with no more than these kept in between
---   held b l         the state of a book b with the line l begun
+--   line_of p         the bytes of the line that has begun
+--   held b l          the state of a book b with the line l begun
 use Rattle.std.specs.Prelude.{ℕ, ◌-◌, ◌≤◌, ◌<◌, ◌≡◌, Bool, true, not, ◌&&◌, List, [], ◌∷◌, ◌++◌, eqb, length, take, drop, get_or}
 use Rattle.tools.specs.Tests.{pick}
+use Rattle.text.specs.declared.begun.Pending.{Pending}
 
 pub record Answers (B : Type 0) : Type 0 where
   pub says : B → List ℕ → List ℕ
@@ -76,6 +78,9 @@ module _ {B : Type 0} (A : Answers B) where
   unfoldable pub runs : State B → List (List ℕ) → List ℕ
   runs s [] = last_text s
   runs s (xs ∷ ps) = text_of s xs ++ runs (cut (after s xs)) ps
+
+abbrev pub line_of : Pending → List ℕ
+line_of p = take p.count p.line
 
 abbrev pub held : {B : Type 0} → B → List ℕ → State B
 held b l = record { book = b; line = l }

@@ -1,21 +1,20 @@
-// Words, digits, lines and streams of bytes: found in lent slices, or written on a page.
+// Words, digits, lines and streams of bytes: found in lent slices, or written into them from a place on.
 
 #![tactic(auto)]
 
-ghost use Rattle.std.specs.Prelude.{◌≡◌, [], ◌∷◌, ◌++◌, ◌+◌, ◌*◌, ◌-◌, ◌≤◌, length, take};
+ghost use Rattle.std.specs.Prelude.{◌≡◌, [], ◌∷◌, ◌++◌, ◌+◌, ◌*◌, ◌-◌, ◌<◌, ◌≤◌, length, take};
 ghost use Rattle.tools.specs.Tests.{all_below};
 ghost use Rattle.text.specs.Words.{opens};
 ghost use Rattle.text.specs.Digits.{is_number, number_at};
-ghost use Rattle.text.specs.Put.{three};
-ghost use Rattle.text.specs.Stream.{Ends, most};
+ghost use Rattle.text.specs.Put.{Wrote, three};
+ghost use Rattle.text.specs.Stream.{Ends, most, line_of};
 
-use arrayvec::ArrayVec;
+mod begun;
+
+pub use begun::Pending;
 
 // A line is at most 64 bytes long; one byte more tells that it is longer.
 pub const LINE_MOST: usize = 64;
-
-// The bytes of a line that has begun; of a line over 64 bytes the first 65.
-pub type Pending = ArrayVec<u8, 65>;
 
 // Whether the bytes begin with a word.
 pub fn starts_with(s: &[u8], word: &[u8]) -> bool
@@ -69,36 +68,41 @@ pub fn line_end(s: &[u8], from: usize) -> usize
 
 // The line that has begun goes on with more bytes.
 pub fn lengthen(line: &mut Pending, more: &[u8])
-    ensures { line.new.items ≡ take most (line.old.items ++ more.now) }
+    ensures { line_of line.new ≡ take most (line_of line.old ++ more.now) }
 {
-    let room = line.remaining_capacity();
+    let room = line.line.len() - line.count;
     let part = &more[..more.len().min(room)];
-    line.try_extend_from_slice(part).unwrap();
+    let end = line.count + part.len();
+    line.line[line.count..end].copy_from_slice(part);
+    line.count = end;
 }
 
-// A text is written.
-pub fn put_text<const N: usize>(page: &mut ArrayVec<u8, N>, text: &[u8])
-    requires { length page.old.items + length text.now ≤ N }
-    ensures { page.new.items ≡ page.old.items ++ text.now }
+// A text is written; the answer is the place after it.
+pub fn put_text(out: &mut [u8], at: usize, text: &[u8]) -> usize
+    requires { at + length text.now ≤ length out.old }
+    ensures { Wrote out.old at text.now out.new result }
 {
-    page.try_extend_from_slice(text).unwrap();
+    let end = at + text.len();
+    out[at..end].copy_from_slice(text);
+    end
 }
 
-// A byte is written.
-pub fn put_byte<const N: usize>(page: &mut ArrayVec<u8, N>, b: u8)
-    requires { length page.old.items + 1 ≤ N }
-    ensures { page.new.items ≡ page.old.items ++ b ∷ [] }
+// A byte is written; the answer is the place after it.
+pub fn put_byte(out: &mut [u8], at: usize, b: u8) -> usize
+    requires { at < length out.old }
+    ensures { Wrote out.old at (b ∷ []) out.new result }
 {
-    page.push(b);
+    out[at] = b;
+    at + 1
 }
 
-// A number is written in three digits.
-pub fn put_three<const N: usize>(page: &mut ArrayVec<u8, N>, n: u8)
-    requires { length page.old.items + 3 ≤ N }
-    ensures { page.new.items ≡ page.old.items ++ three n }
+// A number is written in three digits; the answer is the place after them.
+pub fn put_three(out: &mut [u8], at: usize, n: u8) -> usize
+    requires { at + 3 ≤ length out.old }
+    ensures { Wrote out.old at (three n) out.new result }
 {
-    // No promise of `write!` says that it succeeds.
-    page.push(b'0' + n / 100);
-    page.push(b'0' + n / 10 % 10);
-    page.push(b'0' + n % 10);
+    out[at] = b'0' + n / 100;
+    out[at + 1] = b'0' + n / 10 % 10;
+    out[at + 2] = b'0' + n % 10;
+    at + 3
 }

@@ -1,19 +1,29 @@
-use Rattle.tools.specs.Lists.{tab}
-use Rattle.tools.proofs.Lists.{length_tab}
-use Rattle.commands.proofs.Shapes.{one_more}
+use Rattle.commands.proofs.Shapes.{sized, part_length, numbers_part}
 use native.Mathlib.Omega.{arith}
-use mathlib.Core.Path.{◌≡◌, ap, ◌∙◌}
+use mathlib.Core.Path.{sym, ◌∙◌}
+use Prim.Native.Nat.{◌-◌}
 use lib.ListN.{length}
 use Rattle.commands.proofs.all_numbers.Goals as goal
 
-pub loop-i-init : goal.loop-i-init
-unfolding tab
-loop-i-init c = c.new-list.ensures
+pub slice_bounds-text-count : goal.slice_bounds-text-count
+slice_bounds-text-count c =
+    omega (arith, sized c.args.line.now c.args.word.now _ (sym c.is_line.ensures ∙ c.if-not-is_line.false))
 
-pub push-requires : goal.push-requires
-push-requires c =
-    let n : length c.loop-i.list.items ≡ c.loop-i.i = ap length c.loop-i.invariant ∙ length_tab 0 c.loop-i.i _ in
-    (omega arith, omega arith)
+pub slice_bounds-text-start : goal.slice_bounds-text-start
+slice_bounds-text-start c =
+    omega (arith, sized c.args.line.now c.args.word.now _ (sym c.is_line.ensures ∙ c.if-not-is_line.false))
 
-pub loop-i-preserved : goal.loop-i-preserved
-loop-i-preserved c = c.push.ensures.items ∙ one_more _ c.loop-i.i _ _ c.loop-i.invariant c.number.ensures
+pub invariant_of-result : goal.invariant_of-result
+invariant_of-result c =
+    let line = c.args.line.now in
+    let word = c.args.word.now in
+    let s = sized line word _ (sym c.is_line.ensures ∙ c.if-not-is_line.false) in
+    let p = part_length line (length word) (length line - length word) (omega arith) in
+    record { few = omega arith }
+
+pub returns : goal.returns
+returns c =
+    let line = c.args.line.now in
+    let e = sym c.is_line.ensures ∙ c.if-not-is_line.false in
+    let s = sized line c.args.word.now _ e in
+    (rw c.saturating_sub-count.ensures at e, numbers_part line _ _ (omega arith))

@@ -1,4 +1,4 @@
-use Rattle.commands.specs.Lines.{lists, start_of, wanted_in}
+use Rattle.commands.specs.Lines.{lists, start_of, numbers_in, wanted_in}
 use Rattle.commands.proofs.Shapes.{Past, chosen_any, passed_any, no_picture, nothing_left}
 use Rattle.tools.specs.Tests.{pick}
 use Rattle.std.proofs.Common.{◌≡◌, None, leb, length, [], ap, sym, ◌∙◌, rules}
@@ -8,7 +8,7 @@ use Rattle.commands.proofs.parse_lists.Goals as goal
 pub returns-in-Some : goal.returns-in-Some
 returns-in-Some c =
     let line = c.args.line.now in
-    let ns = c.in-Some.numbers.items in
+    let ns = numbers_in c.in-Some.numbers.text.now in
     let e : wanted_in c.start_of.result ≡ pick (leb 6 (length ns)) (start_of ns) none = search rules in
     let none_else = no_picture line _ c.in-Some.ensures.0 in
     e ∙ sym (chosen_any _ _ line ns c.in-Some.ensures ∙ ap (pick (leb 6 (length ns)) (start_of ns)) none_else)

@@ -1,4 +1,5 @@
+use Rattle.text.proofs.Writing.{written}
 use Rattle.desks.proofs.last_turn.Goals as goal
 
 pub returns : goal.returns
-returns g c = (c.finish.ensures.summary_after, rw (c.as_slice.ensures.value, c.finish.ensures.wrote) at c.write_out.ensures)
+returns g c = (c.finish-end.ensures.summary_after, rw (written c.finish-end.ensures.wrote) at c.write_out.ensures)

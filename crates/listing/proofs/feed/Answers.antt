@@ -1,4 +1,5 @@
-use Rattle.text.specs.Stream.{held}
+use Rattle.text.specs.Stream.{held, line_of}
+use Rattle.text.proofs.Writing.{none, then}
 use Rattle.text.proofs.Streams.{quiet, gathers, first_plain, first_text, first_after}
 use Rattle.answering.specs.Answering.{line_text, line_folder, answering}
 use Rattle.office.specs.Office.{folder}
@@ -13,15 +14,15 @@ use Prim.Native.Nat.{ℕ, ◌+◌, ◌-◌, ◌<◌}
 use Rattle.listing.proofs.feed.Goals as goal
 
 pub returns-then-stop-piece : goal.returns-then-stop-piece
-returns-then-stop-piece g c =
+returns-then-stop-piece c =
     let a = c.args in
     let b = folder a.book.now a.summary.now in
-    let s = held b a.pending.now.items in
+    let s = held b (line_of a.pending.now) in
     let e = c.line_end-stop in
     let xs = a.piece.now in
     let f = first_plain answering s xs e.result e.ensures in
     record {
-      wrote = rw (quiet answering s (take e.result xs) f) c.clear.ensures;
+      wrote = rw (quiet answering s (take e.result xs) f) (none a.out.now 0 (omega arith));
       feeds = record {
         within = e.ensures.within;
         few = kept_few _ _ c.lengthen.ensures;
@@ -31,25 +32,26 @@ returns-then-stop-piece g c =
     }
 
 pub returns : goal.returns
-returns g c =
+returns c =
     let a = c.args in
     let b = folder a.book.now a.summary.now in
     let xs = a.piece.now in
-    let s = held b a.pending.now.items in
+    let s = held b (line_of a.pending.now) in
     let e = c.line_end-stop in
-    let f = c.feed_lines in
-    let u = f.result in
+    let f = c.feed_lines-fed in
+    let u = f.result.used in
     let l : e.result < length xs = omega (arith, e.ensures.within, c.if-stop-piece.false) in
-    let whole = a.pending.now.items ++ take e.result xs in
+    let whole = line_of a.pending.now ++ take e.result xs in
     let w : take (length xs - (e.result + 1)) (drop (e.result + 1) xs) ≡ drop (e.result + 1) xs =
     take_all (length xs - (e.result + 1)) (drop (e.result + 1) xs) (simp length-drop (omega arith)) in
-    let line : c.as_slice.result.now ≡ take 65 whole = c.as_slice.ensures.value ∙ c.lengthen.ensures in
+    let line : c.as_slice.result.now ≡ take 65 whole = c.as_slice.ensures ∙ c.lengthen.ensures in
     let text : line_text b c.as_slice.result.now ≡ line_text b whole = ap (line_text b) line ∙ blind.says b whole in
-    let book : _ ≡ line_folder b whole = c.answer.ensures.summary_after ∙ ap (line_folder b) line ∙ blind.leaves b whole in
-    let first : c.answer.new.page.items ≡ line_text b whole = (rw c.clear.ensures at c.answer.ensures.wrote) ∙ text in
-    let rest = rw (book, w) at f.ensures.wrote in
+    let told = c.answer-end.ensures in
+    let book : _ ≡ line_folder b whole = told.summary_after ∙ ap (line_folder b) line ∙ blind.leaves b whole in
     record {
-      wrote = rw (first_text answering s xs e.result e.ensures l u) (rw first at rest);
+      wrote =
+          rw (first_text answering s xs e.result e.ensures l u)
+          (then (rw text at told.wrote) (rw (book, w) at f.ensures.wrote));
       feeds = record {
         -- what is taken in lies within the piece
         within = omega (arith, e.ensures.within, l, simp (length-take, length-drop) at f.ensures.feeds.within);

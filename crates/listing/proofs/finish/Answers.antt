@@ -1,21 +1,24 @@
-use Rattle.text.specs.Stream.{last_text, last_book}
+use Rattle.text.specs.Stream.{line_of, last_text, last_book}
+use Rattle.text.proofs.Writing.{none}
 use lib.Dec.{eqb}
 use lib.ListN.{length}
+use native.Mathlib.Omega.{arith}
 use mathlib.Core.Bool.{true, false}
 use mathlib.Core.Path.{◌≡◌}
 use Rattle.listing.proofs.finish.Goals as goal
 
-pub returns-then-not-is_empty : goal.returns-then-not-is_empty
+pub returns-then-is_empty : goal.returns-then-is_empty
 unfolding last_text last_book
-returns-then-not-is_empty g c =
-    let e : eqb (length c.args.pending.now.items) 0 ≡ false = cc (c.is_empty.ensures, c.if-not-is_empty.true) in
-    record {
-      wrote = rw (last_text, e) (rw (c.clear.ensures, c.as_slice.ensures.value) at c.answer.ensures.wrote);
-      summary_after = rw (last_book, e) (rw c.as_slice.ensures.value at c.answer.ensures.summary_after);
-    }
+returns-then-is_empty c =
+    let e : eqb (length (line_of c.args.pending.now)) 0 ≡ true = cc (c.is_empty.ensures, c.if-is_empty.true) in
+    record { wrote = rw (last_text, e) (none c.args.out.now 0 (omega arith)); summary_after = rw (last_book, e) }
 
-pub returns-else-not-is_empty : goal.returns-else-not-is_empty
+pub returns : goal.returns
 unfolding last_text last_book
-returns-else-not-is_empty g c =
-    let e : eqb (length c.args.pending.now.items) 0 ≡ true = cc (c.is_empty.ensures, c.if-not-is_empty.false) in
-    record { wrote = rw (last_text, e) c.clear.ensures; summary_after = rw (last_book, e) }
+returns c =
+    let e : eqb (length (line_of c.args.pending.now)) 0 ≡ false = cc (c.is_empty.ensures, c.if-is_empty.false) in
+    let told = c.answer.ensures in
+    record {
+      wrote = rw (last_text, e) (rw c.as_slice.ensures at told.wrote);
+      summary_after = rw (last_book, e) (rw c.as_slice.ensures at told.summary_after);
+    }

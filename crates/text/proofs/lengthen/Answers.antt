@@ -1,8 +1,9 @@
-use Rattle.text.specs.Stream.{most}
+use Rattle.text.specs.Stream.{most, line_of}
 use Rattle.tools.proofs.Tests.{lt_or_le}
-use Rattle.std.proofs.Common.{◌≡◌, ◌<◌, ◌≤◌, ◌+◌, ℕ, List, ◌++◌, length, take, ap, sym, ◌∙◌, arith, rules, min}
+use Rattle.std.proofs.Common.{◌≡◌, ◌<◌, ◌≤◌, ◌+◌, ◌-◌, ℕ, List, ◌++◌, length, take, ap, sym, ◌∙◌, arith, rules, min}
 use mathlib.Core.Logic.{⊎_elim}
-use lib.Seq.{take_all, take-append-add}
+use lib.Seq.{take_all, take-append-add, length-take-le}
+use Rattle.std.proofs.lemmas.Slice.{take-put_mid}
 use Rattle.text.proofs.lengthen.Goals as goal
 
 -- of a list as many as there are, but no more than n, are its first n
@@ -21,8 +22,13 @@ lengthened held more room e = sym (rw (← e) (take-append-add held more room))
 
 pub returns : goal.returns
 returns c =
-    let room = c.remaining_capacity-room.result in
-    let held = c.args.line.now.items in
+    let p = c.args.line.now in
+    let held = line_of p in
     let more = c.args.more.now in
-    let e : c.try_extend_from_slice.new.self.items ≡ held ++ take c.min.result more = search rules in
-    e ∙ rw (upto more room _ c.min.ensures) (lengthened held more room (omega arith))
+    let size : length p.line ≡ 65 = search rules in
+    let count : length held ≡ p.count = length-take-le p.count p.line (omega (arith, size, p.few)) in
+    let room = most - p.count in
+    let after = c.copy_from_slice.ensures.after in
+    take-put_mid p.count _ p.line c.copy_from_slice.new.self _ (omega (arith, ap length after)) (omega (arith, size, p.few))
+    ∙ ap (λ (l : List ℕ). held ++ l) (after ∙ upto more room _ c.min.ensures)
+    ∙ lengthened held more room (omega (arith, count, p.few))
