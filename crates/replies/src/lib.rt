@@ -1,4 +1,4 @@
-// Answers as lines of text, each written into a lent buffer from a place on.
+// Answers as lines of text, each written into a lent buffer from a place on, or given as a line of its own.
 
 #![tactic(auto)]
 
@@ -9,6 +9,10 @@ ghost use Rattle.rules.specs.Replies.{answer_by, number_in, row_of, slot_in};
 ghost use Rattle.rules.specs.Replies.{done_value, stamped_value, received_value, sent_value, odds_value, reset_value};
 ghost use Rattle.replies.specs.Print.{pair, stamp_text, then, answer_text, longest};
 
+// Answers as lines of their own.
+mod lines;
+
+pub use lines::{Line, Reply, line_of};
 use rules::{Odds, Received, Refusal, Relation, Sent, Stamp, Stamped};
 
 // The bytes of the longest line.
@@ -17,8 +21,8 @@ pub const LONGEST: usize = 80;
 // The number of an answer that is done.
 const DONE: u8 = 0;
 
-// What an accepted call gives, and the line that tells it.
-pub trait Reply {
+// What an accepted call gives, and how the line that tells it is written into a lent buffer.
+pub trait Put {
     // Its value, by the rules.
     ghost value: { Self → Value };
 
@@ -113,7 +117,7 @@ fn put_foretold(out: &mut [u8], at: usize, number: u8) -> usize
 }
 
 // Of a call that gives nothing: the number alone.
-impl Reply for () {
+impl Put for () {
     ghost value = { done_value };
 
     ghost printable = { λ n. Unit {0} };
@@ -126,7 +130,7 @@ impl Reply for () {
 }
 
 // Of local and reset.
-impl Reply for Stamped {
+impl Put for Stamped {
     ghost value = { stamped_value };
 
     ghost printable = { λ n. n ≤ 8 };
@@ -143,7 +147,7 @@ impl Reply for Stamped {
 }
 
 // Of receive.
-impl Reply for Received {
+impl Put for Received {
     ghost value = { received_value };
 
     ghost printable = { λ n. n ≤ 8 };
@@ -165,7 +169,7 @@ impl Reply for Received {
 }
 
 // Of send.
-impl Reply for Sent {
+impl Put for Sent {
     ghost value = { sent_value };
 
     ghost printable = { λ n. n ≤ 8 };
@@ -183,7 +187,7 @@ impl Reply for Sent {
 }
 
 // Of before.
-impl Reply for bool {
+impl Put for bool {
     ghost value = { says };
 
     ghost printable = { λ n. Unit {0} };
@@ -200,7 +204,7 @@ impl Reply for bool {
 }
 
 // Of compare: the relation in words.
-impl Reply for Relation {
+impl Put for Relation {
     ghost value = { relates };
 
     ghost printable = { λ n. Unit {0} };
@@ -219,7 +223,7 @@ impl Reply for Relation {
 }
 
 // Of picture: yes, or the two desks at odds.
-impl Reply for Option<Odds> {
+impl Put for Option<Odds> {
     ghost value = { odds_value };
 
     ghost printable = { λ n. Unit {0} };
@@ -235,7 +239,7 @@ impl Reply for Option<Odds> {
 }
 
 // Of may: yes, or the number that a reset would be answered.
-impl Reply for Option<Refusal> {
+impl Put for Option<Refusal> {
     ghost value = { reset_value };
 
     ghost printable = { λ n. Unit {0} };
@@ -251,7 +255,7 @@ impl Reply for Option<Refusal> {
 }
 
 // The line of an answer, in a book of so many desks.
-pub fn put_answer<T: Reply + Drop>(
+pub fn put_answer<T: Put + Drop>(
     out: &mut [u8],
     at: usize,
     desks: u8,

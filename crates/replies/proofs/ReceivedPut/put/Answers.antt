@@ -4,7 +4,7 @@ use Rattle.rules.specs.Replies.{row_of, slot_in}
 use Rattle.replies.proofs.Lengths.{slot_length, stamp_room}
 use Rattle.replies.proofs.Behind.{behind}
 use native.Mathlib.Omega.{arith}
-use Rattle.replies.proofs.ReceivedReply.put.Goals as goal
+use Rattle.replies.proofs.ReceivedPut.put.Goals as goal
 
 -- there is room for a number, a slot and the newline
 pub put_field-c-requires : goal.put_field-c-requires
